@@ -1,0 +1,4 @@
+pub mod Board
+pub mod Line
+pub mod Atoms
+pub mod Base

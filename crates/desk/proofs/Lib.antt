@@ -1,0 +1,3 @@
+pub mod Splits
+mod Says
+mod Encodings

@@ -1,0 +1,3 @@
+pub mod DraftText
+pub mod Rest
+pub mod Encoding

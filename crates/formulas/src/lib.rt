@@ -1,0 +1,1 @@
+// Formulas in clauses: what they mean, and how their variables are numbered. Definitions and lemmas only.

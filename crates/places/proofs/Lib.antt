@@ -1,0 +1,3 @@
+mod Clauses
+mod Places
+pub mod Written

@@ -1,0 +1,1 @@
+// Clauses written as words and as text, and read back. Definitions and lemmas only.
