@@ -18,7 +18,7 @@ use Rattle.std.proofs.shelf.Tests.{cases-bool, cond-true, cond-false}
 use Rattle.desk.specs.declared.statement.Reason.the-variants.{SideWords, UnknownStatement}
 use Rattle.desk.specs.declared.statement.Statement.{Statement}
 use Rattle.desk.specs.declared.statement.Statement.the-variants.{Wrong}
-use Rattle.desk.specs.DraftText.{code-of, digit, says, says-side, side-number, statement-of, words-of}
+use Rattle.desk.specs.DraftText.{code-of, digit, known, says, says-side, side-number, statement-of, words-of}
 
 -- what `!=` found
 pub same-by : (w v : List ℕ) (r : Bool) → (x : Bool) × Matches (λ (a b : ℕ) (t : Bool). Decides t (a ≡ b)) w v x × (r ≡ not x) → not r ≡ sameBytes w v
@@ -54,6 +54,6 @@ module _ (line code w rest : List ℕ) (e : code ≡ code-of line) (f : words-of
       too-many (Some p) s c = ap says-side (sym (k ∙ ap (λ l. n ∷ l) c)) ∙ side-says
 
       pub one-number : (o : Option (RefT (List ℕ) × RefT (List ℕ))) → isSome o ≡ false →
-          Cases o (words-of more ≡ []) (λ p. words-of more ≡ now (p .0) ∷ words-of (now (p .1))) → side-number (digit n) ≡ statement-of line
+          Cases o (words-of more ≡ []) (λ p. words-of more ≡ now (p .0) ∷ words-of (now (p .1))) → side-number (known (digit n)) ≡ statement-of line
       one-number None s c = ap says-side (sym (k ∙ ap (λ l. n ∷ l) c)) ∙ side-says
       one-number (Some p) s c = grind arith

@@ -11,6 +11,8 @@ use Rattle.std.specs.declared.option.Option.{Option}
 use Rattle.std.specs.declared.option.Option.the-variants.{Some, None}
 use Rattle.std.specs.declared.result.Result.{Result}
 use Rattle.std.specs.declared.result.Result.the-variants.{Ok, Err}
+use Rattle.std.specs.Options.{isSome}
+use Rattle.boards.specs.Board.{board-of}
 use Rattle.spelling.specs.Spelling.{pieces}
 use Rattle.spelling.specs.Text.{isLineFeed}
 use Rattle.desk.specs.declared.statement.Reason.{Reason}
@@ -52,6 +54,11 @@ digit [] = None
 digit (b ∷ []) = cond (leb 48 b && leb b 57) (Some (b - 48)) None
 digit (b ∷ c ∷ bs) = None
 
+-- that is the side of a board
+abbrev pub known : Option ℕ → Option ℕ
+known None = None
+known (Some n) = cond (isSome (board-of n)) (Some n) None
+
 abbrev pub side-number : Option ℕ → Statement
 side-number None = Wrong SideNumber
 side-number (Some n) = Side n
@@ -59,7 +66,7 @@ side-number (Some n) = Side n
 -- one number follows the word `side`
 abbrev pub says-side : List (List ℕ) → Statement
 says-side [] = Wrong SideWords
-says-side (w ∷ []) = side-number (digit w)
+says-side (w ∷ []) = side-number (known (digit w))
 says-side (w ∷ v ∷ vs) = Wrong SideWords
 
 abbrev pub says : List (List ℕ) → Statement

@@ -9,9 +9,9 @@ use crate::fault::WriteFaultFromAlloc;
 use crate::fault::WriteFaultFromDraft;
 use crate::read::read_draft;
 use draft::Draft;
-use places::TextPlace;
-use places::TextPlacePlace;
 use std::alloc::Global;
+use text_place::TextPlace;
+use text_place::TextPlacePlace;
 
 // How many bytes there are for the clauses.
 const ROOM: usize = 1_048_576;

@@ -1,6 +1,6 @@
 // Reads a draft text.
 ghost use mathlib.Core.Path.{_≡_};
-ghost use Rattle.desk.specs.DraftText.{after-side, digit, read, statement-of};
+ghost use Rattle.desk.specs.DraftText.{after-side, digit, known, read, statement-of};
 ghost use Rattle.desk.specs.Rest.{Advances};
 use crate::statement::Reason;
 use crate::statement::SideLine;
@@ -9,6 +9,7 @@ use crate::statement::TextFault;
 use crate::words::next_line;
 use crate::words::next_word;
 use crate::words::without_comment;
+use boards::Board;
 
 // The side that a text says, and the line that says it; or the first line that is wrong.
 pub fn read_draft(text: &[u8]) -> Result<SideLine, TextFault>
@@ -69,9 +70,21 @@ fn read_line(line: &[u8]) -> Statement
     if next_word(rest).is_some() {
         return Statement::Wrong(Reason::SideWords);
     }
-    match one_digit(number) {
+    match known_side(number) {
         Some(side) => Statement::Side(side),
         None => Statement::Wrong(Reason::SideNumber),
+    }
+}
+
+// The side of a board.
+fn known_side(word: &[u8]) -> Option<usize>
+    ensures { λ r. ⌜ r ≡ known (digit (now (word .entry))) ⌝ }
+{
+    let side = one_digit(word)?;
+    if Board::of_side(side).is_some() {
+        Some(side)
+    } else {
+        None
     }
 }
 

@@ -11,7 +11,7 @@ pub enum Reason {
     SecondSide,
     // Not one word stands behind `side`.
     SideWords,
-    // That word is not a number of one digit.
+    // That word is not the side of a board.
     SideNumber,
 }
 

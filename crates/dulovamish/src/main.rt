@@ -4,6 +4,8 @@ use desk::Reason;
 use desk::encode;
 use desk::statement_word;
 use draft::DraftFault;
+use std::alloc::AllocError;
+use std::alloc::Global;
 use std::env;
 use std::fs;
 use std::io;
@@ -133,15 +135,22 @@ fn explain(rt: &LibcRuntime, name: &str, text: &[u8], fault: EncodeFault) -> Res
 }
 
 fn unknown(rt: &LibcRuntime, name: &str, line: usize, word: &[u8]) -> Result<(), Stopped> {
-    let _ = match std::str::from_utf8(word) {
+    let _ = match printable(rt.alloc(), word) {
         Ok(word) => eprintln!(
             rt,
             "dulovamish: {name}: line {line}: unknown statement `{word}`"
         ),
-        Err(_) => eprintln!(
-            rt,
-            "dulovamish: {name}: line {line}: unknown statement, with bytes that are no text"
-        ),
+        Err(_) => eprintln!(rt, "dulovamish: {name}: line {line}: unknown statement"),
     };
     Err(Stopped)
+}
+
+// A word as a terminal can show it: `?` stands for each byte that is no printable ASCII character.
+fn printable(heap: Global, word: &[u8]) -> Result<String, AllocError> {
+    let mut shown = String::new(heap);
+    for byte in word {
+        let known = *byte > b' ' && *byte < 127;
+        shown.push(if known { char::from(*byte) } else { '?' })?;
+    }
+    Ok(shown)
 }

@@ -4,7 +4,7 @@ use mathlib.Core.List.{List, [], _∷_, _++_}
 use mathlib.Core.Bool.{Bool, true}
 use Prim.Native.Nat.{ℕ, zero, suc, _<_}
 use native.Mathlib.Nat.{not-suc-le-zero, le-of-suc-le-suc}
-use lib.ListN.{length, getD, take}
+use lib.ListN.{length, getD, take, drop}
 use Rattle.std.proofs.shelf.Tests.{and-parts, and-from}
 use Rattle.formulas.specs.Clause.{every}
 
@@ -21,6 +21,11 @@ every-take p zero xs h = refl
 every-take p (suc n) [] h = refl
 every-take p (suc n) (x ∷ xs) h =
     let both = and-parts (p x) (every p xs) h in and-from (p x) (every p (take n xs)) (both .0) (every-take p n xs (both .1))
+
+pub every-drop : {X : Type 0} (p : X → Bool) (n : ℕ) (xs : List X) → every p xs ≡ true → every p (drop n xs) ≡ true
+every-drop p zero xs h = h
+every-drop p (suc n) [] h = refl
+every-drop p (suc n) (x ∷ xs) h = every-drop p n xs (and-parts (p x) (every p xs) h .1)
 
 -- what each element that passes one test passes too
 pub every-weaker : {X : Type 0} (p q : X → Bool) → ((x : X) → p x ≡ true → q x ≡ true) → (xs : List X) → every p xs ≡ true → every q xs ≡ true

@@ -1,3 +1,2 @@
-mod Clauses
-mod Places
+pub mod Clauses
 pub mod Written

@@ -1,5 +1,3 @@
 pub mod Fault
 pub mod Put
 pub mod Written
-pub mod WordPlaces
-pub mod TextPlaces

@@ -1,11 +1,10 @@
-// Places: stores of clauses over a buffer that the caller lends.
+// Places: stores of clauses. What every place promises, and what the places over buffers share.
 mod clause;
 mod fault;
 mod place;
 mod scan;
-mod text;
-mod word;
 
+pub use clause::check_clause;
 pub use fault::Layer;
 pub use fault::LayerDebug;
 pub use fault::LayerEq;
@@ -19,8 +18,7 @@ pub use fault::RefusalDebug;
 pub use fault::RefusalEq;
 pub use fault::RefusalPartialEq;
 pub use place::Place;
-pub use text::TextPlace;
-pub use text::TextPlacePlace;
-pub use text::write_heading;
-pub use word::WordPlace;
-pub use word::WordPlacePlace;
+pub use scan::ByteElement;
+pub use scan::Element;
+pub use scan::WordElement;
+pub use scan::last_lines;

@@ -1,6 +1,6 @@
 -- What a put and a cut leave of a place, for any way of spelling clauses that reads back.
 use mathlib.Core.Path.{_≡_, refl, sym, ap, subst, _∙_}
-use mathlib.Core.List.{List, [], _∷_, _++_, map, append-assoc, append-nil}
+use mathlib.Core.List.{List, [], _∷_, _++_, append-assoc, append-nil}
 use mathlib.Core.Bool.{Bool, true, not}
 use Prim.Native.Nat.{ℕ, _+_, _-_, _≤_, _<_}
 use native.Mathlib.Omega.{arith}
@@ -8,14 +8,14 @@ use borrow.Rule.Slice.PartMut.{putMid}
 use lib.IntN.{ℤ}
 use lib.ListN.{length, take, drop, replicate}
 use Rattle.std.specs.Joined.{joined}
-use Rattle.std.specs.shelf.Lists.{sumBy}
-use Rattle.std.proofs.shelf.Lists.{length-append, length-map, take-map, length-take-le, length-drop, length-replicate, take-append-drop, take-at, drop-at, take-take, take-all, drop-drop, drop-replicate, replicate-append-replicate}
+use Rattle.std.specs.shelf.Lists.{countBy, sumBy}
+use Rattle.std.proofs.shelf.Lists.{length-append, length-take-le, length-drop, length-replicate, take-append-drop, take-at, drop-at, take-take, take-all, drop-drop, drop-replicate, replicate-append-replicate}
 use Rattle.std.proofs.shelf.Sums.{sumBy-cons, sumBy-take-drop}
 use Rattle.formulas.specs.Clause.{every, valid}
-use Rattle.spelling.specs.Spelling.{pieces, closed, overwritten}
+use Rattle.spelling.specs.Spelling.{overwritten}
 use Rattle.formulas.proofs.Lists.{joined-append, joined-split, length-joined-take}
 use Rattle.formulas.proofs.Every.{every-push, every-take, every-weaker}
-use Rattle.spelling.proofs.Pieces.{pieces-closed, closed-map}
+use Rattle.spelling.proofs.Pieces.{begins-at}
 
 -- a way of spelling clauses: each is its body and then the mark, and free space is blank
 pub record Spelling (X : Type 0) : Type 0 where
@@ -96,27 +96,13 @@ module _ {X : Type 0} (s : Spelling X) where
     pub whole : xs ≡ spelled held ++ replicate (length xs - used) (s .blank)
     whole = sym (take-append-drop used xs) ∙ ap (λ p. p ++ drop used xs) (sym (k .written)) ∙ ap (λ p. spelled held ++ p) (k .blank)
 
-    -- the used part is cut into the clauses' bodies, and made of them
-    in-pieces : pieces (s .ends) (take used xs) ≡ map (s .body) held
-    in-pieces =
-        ap (pieces (s .ends)) (sym (k .written) ∙ sym (append-nil (spelled held))) ∙
-        pieces-closed (s .ends) (s .mark) (s .marks) (s .body) held []
-        (every-weaker valid (λ c. every (λ x. not (s .ends x)) (s .body c)) (s .plain) held (k .sound)) ∙ append-nil (map (s .body) held)
-
-    -- so the start of the last count - m lines can be looked for in the buffer us
-    pub scannable : (m : ℕ) (us : List X) → us ≡ xs →
-        record {
-          fits : used ≤ length us;
-          whole : closed (s .mark) (pieces (s .ends) (take used us)) ≡ take used us;
-          enough : count - m ≤ length (pieces (s .ends) (take used us));
-        }
-    scannable m us e =
-        let same : pieces (s .ends) (take used us) ≡ map (s .body) held = ap (λ r. pieces (s .ends) (take used r)) e ∙ in-pieces in
-        record {
-          fits = omega (arith, k .fits, ap length e);
-          whole = ap (closed (s .mark)) same ∙ closed-map (s .mark) (s .body) held ∙ k .written ∙ ap (take used) (sym e);
-          enough = omega (arith, ap length same, length-map held (s .body), k .counted);
-        }
+    -- where the last count - m clauses begin in the used part, which us is
+    pub begins : (m : ℕ) (us : List X) (r : ℕ) → m ≤ count → us ≡ take used xs → countBy (s .ends) (drop r us) ≤ count - m →
+        ((k : ℕ) → k < r → count - m < countBy (s .ends) (drop k us)) → r ≡ length (spelled (take m held))
+    begins m us r l e most least =
+        begins-at (s .ends) (s .mark) (s .marks) (s .body) held
+        (every-weaker valid (λ c. every (λ x. not (s .ends x)) (s .body c)) (s .plain) held (k .sound))
+        [] us m (count - m) r (e ∙ sym (k .written)) (omega (arith, k .counted)) most least
 
     -- blanks from `at` on
     blanks : (at n : ℕ) → used ≤ at → at + n ≡ length xs → drop at xs ≡ replicate n (s .blank)
@@ -144,18 +130,13 @@ module _ {X : Type 0} (s : Spelling X) where
 
     -- The used part is blanked from `start` on, where the last count - m clauses begin: us is the buffer, and zs the blanks.
     pub cut : (m start : ℕ) (us zs : List X) → m ≤ count → us ≡ xs →
-        start ≡ length (closed (s .mark) (take (length (pieces (s .ends) (take used us)) - (count - m)) (pieces (s .ends) (take used us)))) →
+        start ≡ length (spelled (take m held)) →
         zs ≡ replicate (length (take (used - start) (drop start us))) (s .blank) →
         let ys = putMid start (used - start) us zs in
         Kept ys start m × (s .read (take start ys) ≡ take m held) × (length ys ≡ length xs)
-    cut m start us zs le u st d =
+    cut m start us zs le u begin d =
         let n = used - start in
         let cs = take m held in
-        let left : length (map (s .body) held) - (count - m) ≡ m = omega (arith, k .counted, length-map held (s .body)) in
-        let begin : start ≡ length (spelled cs) =
-        st ∙ ap (λ r. length (closed (s .mark) (take (length r - (count - m)) r))) (ap (λ r. pieces (s .ends) (take used r)) u ∙ in-pieces) ∙
-        ap (λ i. length (closed (s .mark) (take i (map (s .body) held)))) left ∙
-        ap length (ap (closed (s .mark)) (take-map (s .body) m held) ∙ closed-map (s .mark) (s .body) cs) in
         let within : start ≤ used = omega (arith, length-joined-take line held m, length-spelled held, used-is) in
         let size : length (take n (drop start us)) ≡ n = length-take-le n (drop start us) (omega (arith, length-drop start us, ap length u, k .fits)) in
         let front : take start xs ≡ spelled cs =

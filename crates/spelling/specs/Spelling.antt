@@ -3,8 +3,6 @@ use mathlib.Core.List.{List, [], _∷_, _++_}
 use mathlib.Core.Bool.{Bool, cond}
 use Prim.Native.Nat.{ℕ, _+_}
 use lib.ListN.{length, take, drop}
-use Rattle.std.specs.Joined.{joined}
-use Rattle.std.specs.shelf.Lists.{folded}
 
 abbrev pub onto-first : {X : Type 0} → X → List (List X) → List (List X)
 onto-first x [] = []
@@ -14,14 +12,6 @@ onto-first x (p ∷ ps) = (x ∷ p) ∷ ps
 abbrev pub pieces : {X : Type 0} → (X → Bool) → List X → List (List X)
 pieces ends [] = []
 pieces ends (x ∷ xs) = cond (ends x) ([] ∷ pieces ends xs) (onto-first x (pieces ends xs))
-
--- the pieces in a row, each closed by the mark e
-abbrev pub closed : {X : Type 0} → X → List (List X) → List X
-closed e ps = joined (λ p. p ++ e ∷ []) ps
-
--- how many elements stand after the last mark
-abbrev pub sinceMark : {X : Type 0} → (X → Bool) → List X → ℕ
-sinceMark ends xs = folded (λ n x. cond (ends x) 0 (n + 1)) 0 xs
 
 -- the list xs with ys written over it from `at` on
 abbrev pub overwritten : {X : Type 0} → List X → ℕ → List X → List X

@@ -15,7 +15,7 @@ use crate::state::Draft;
 use boards::Board;
 use boards::write_base;
 use places::Place;
-use places::write_heading;
+use text_place::write_heading;
 
 impl Draft {
     // Opens a draft of a side on an empty place: what every grid obeys is written there. Otherwise the place is as it was.

@@ -1,7 +1,7 @@
 use mathlib.Core.Path.{refl, _∙_}
 use native.Mathlib.Omega.{arith}
 use lib.ListN.{length, replicate}
-use Rattle.places.specs.TextPlaces.{heldText}
+use Rattle.text_place.specs.Meaning.{heldText}
 use Rattle.desk.proofs.Encodings.{at-length, fits, never, whole}
 use Rattle.desk.proofs.encoding.write_draft.Needs as need
 

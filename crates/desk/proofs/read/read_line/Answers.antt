@@ -22,9 +22,9 @@ returns-then-is-some c =
     (c .in-Some-next-word .number .now) (c .in-Some-next-word .rest .now) (c .in-Some-next-word .ensures tt)
     (c .next-word-3 .result) (sym (c .is-some .ensures) ∙ c .if-is-some .taken) (c .next-word-3 .ensures)
 
-pub returns-in-Some-one-digit : need.returns-in-Some-one-digit
-returns-in-Some-one-digit c =
-    ap side-number (c .in-Some-one-digit .ensures tt) ∙
+pub returns-in-Some-known-side : need.returns-in-Some-known-side
+returns-in-Some-known-side c =
+    ap side-number (c .in-Some-known-side .ensures tt) ∙
     one-number (c .args .line .now) (c .without-comment .result .now) (c .in-Some .word .now) (c .in-Some .rest .now) (c .without-comment .ensures) (c .in-Some .ensures tt)
     (ap not (sym (c .if-ne .left)) ∙ same-by (c .in-Some .word .now) (codes "side") (c .ne .result) (c .ne .ensures))
     (c .in-Some-next-word .number .now) (c .in-Some-next-word .rest .now) (c .in-Some-next-word .ensures tt)

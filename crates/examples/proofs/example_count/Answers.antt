@@ -1,0 +1,5 @@
+use mathlib.Core.Path.{refl}
+use Rattle.examples.proofs.example_count.Needs as need
+
+pub returns : need.returns
+returns c = record { count = refl; all = refl }

@@ -1,7 +1,0 @@
-use Rattle.spelling.proofs.Store.{whole}
-use Rattle.spelling.proofs.Texts.{text}
-use Rattle.places.proofs.Places.{kept-text}
-use Rattle.places.proofs.text.TextPlace.bytes.Needs as need
-
-pub returns : need.returns
-returns c = let p = c .args .self .now in whole text (p .bytes .now) (p .used) (p .count) (kept-text p)
