@@ -12,9 +12,9 @@ use places::PlaceFault;
 
 // That a cell has a digit.
 #[derive(Clone, Copy)]
-pub struct Mark {
-    pub cell: u8,
-    pub digit: usize,
+struct Mark {
+    cell: u8,
+    digit: usize,
 }
 
 // The number of the variable that says so.
@@ -28,7 +28,11 @@ fn variable(board: &Board, mark: Mark) -> u16
 }
 
 // The cell has a digit.
-pub fn write_some_digit<P: Place>(board: &Board, cell: u8, place: &mut P) -> Result<(), PlaceFault>
+pub(crate) fn write_some_digit<P: Place>(
+    board: &Board,
+    cell: u8,
+    place: &mut P,
+) -> Result<(), PlaceFault>
     ensures { λ r. ⌜ Writes P·Place (clauses-of (now (board .entry)) (some-digit (now (board .entry)) cell ∷ [])) (now (place .entry)) (now (place .exit)) (errPart r) ⌝ }
 {
     let side = board.side();
@@ -46,7 +50,7 @@ pub fn write_some_digit<P: Place>(board: &Board, cell: u8, place: &mut P) -> Res
 }
 
 // The cell has no two digits.
-pub fn write_no_two_digits<P: Place>(
+pub(crate) fn write_no_two_digits<P: Place>(
     board: &Board,
     cell: u8,
     place: &mut P,
@@ -81,7 +85,7 @@ fn write_no_later_digit<P: Place>(
 }
 
 // No two of the cells have the same digit.
-pub fn write_no_repeat<P: Place>(
+pub(crate) fn write_no_repeat<P: Place>(
     board: &Board,
     cells: &[u8],
     place: &mut P,

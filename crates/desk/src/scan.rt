@@ -8,7 +8,7 @@ ghost use Rattle.desk.specs.DraftText.{blank, hash, ink};
 ghost use Rattle.spelling.specs.Text.{isLineFeed};
 
 // A class of bytes.
-pub trait Class {
+pub(crate) trait Class {
     ghost holds: { ℕ → Bool };
 
     fn has(byte: u8) -> bool
@@ -16,9 +16,9 @@ pub trait Class {
 }
 
 // What stands between words.
-pub struct Blank;
+pub(crate) struct Blank;
 
-pub impl Class for Blank as BlankClass {
+pub(crate) impl Class for Blank as BlankClass {
     ghost holds = { blank };
 
     fn has(byte: u8) -> bool {
@@ -27,9 +27,9 @@ pub impl Class for Blank as BlankClass {
 }
 
 // What words are made of.
-pub struct Ink;
+pub(crate) struct Ink;
 
-pub impl Class for Ink as InkClass {
+pub(crate) impl Class for Ink as InkClass {
     ghost holds = { ink };
 
     fn has(byte: u8) -> bool {
@@ -38,9 +38,9 @@ pub impl Class for Ink as InkClass {
 }
 
 // What stands before a comment.
-pub struct Code;
+pub(crate) struct Code;
 
-pub impl Class for Code as CodeClass {
+pub(crate) impl Class for Code as CodeClass {
     ghost holds = { λ b. not (hash b) };
 
     fn has(byte: u8) -> bool {
@@ -49,9 +49,9 @@ pub impl Class for Code as CodeClass {
 }
 
 // What a line is made of.
-pub struct InLine;
+pub(crate) struct InLine;
 
-pub impl Class for InLine as InLineClass {
+pub(crate) impl Class for InLine as InLineClass {
     ghost holds = { λ b. not (isLineFeed b) };
 
     fn has(byte: u8) -> bool {
@@ -60,7 +60,7 @@ pub impl Class for InLine as InLineClass {
 }
 
 // Where the run of such bytes ends that begins at `from`.
-pub fn run_end<C: Class>(bytes: &[u8], from: usize) -> usize
+pub(crate) fn run_end<C: Class>(bytes: &[u8], from: usize) -> usize
     requires { ⌜ from ≤ length (now bytes) ⌝ }
     ensures value { λ r. ⌜ r ≡ from + leading (C·Class .holds) (drop from (now (bytes .entry))) ⌝ }
     ensures within { λ r. ⌜ r ≤ length (now (bytes .entry)) ⌝ }

@@ -17,7 +17,7 @@ use crate::scan::InkClass;
 use crate::scan::run_end;
 
 // The first line, and the text behind its line feed, if it has one.
-pub fn next_line(text: &[u8]) -> (&[u8], Option<&[u8]>)
+pub(crate) fn next_line(text: &[u8]) -> (&[u8], Option<&[u8]>)
     ensures lines { λ r. ⌜ lines-of (now (text .entry)) ≡ now (r .0) ∷ lines-after (r .1) ⌝ }
     ensures shorter { λ r. ⌜ Shorter (r .1) (now (text .entry)) ⌝ }
 {
@@ -31,14 +31,14 @@ pub fn next_line(text: &[u8]) -> (&[u8], Option<&[u8]>)
 }
 
 // A line without its comment.
-pub fn without_comment(line: &[u8]) -> &[u8]
+pub(crate) fn without_comment(line: &[u8]) -> &[u8]
     ensures { λ r. ⌜ now r ≡ code-of (now (line .entry)) ⌝ }
 {
     &line[0..run_end::<Code>(line, 0)]
 }
 
 // The first word, and what stands behind it.
-pub fn next_word(bytes: &[u8]) -> Option<(&[u8], &[u8])>
+pub(crate) fn next_word(bytes: &[u8]) -> Option<(&[u8], &[u8])>
     ensures { λ r. ⌜ Cases r (words-of (now (bytes .entry)) ≡ []) (λ p. words-of (now (bytes .entry)) ≡ now (p .0) ∷ words-of (now (p .1))) ⌝ }
 {
     let start = run_end::<Blank>(bytes, 0);

@@ -1,5 +1,5 @@
 -- What a put and a cut leave of a place, for any way of spelling clauses that reads back.
-use mathlib.Core.Path.{_≡_, refl, sym, ap, subst, _∙_}
+use mathlib.Core.Path.{_≡_, refl, sym, ap, ap₂, subst, _∙_}
 use mathlib.Core.List.{List, [], _∷_, _++_, append-assoc, append-nil}
 use mathlib.Core.Bool.{Bool, true, not}
 use Prim.Native.Nat.{ℕ, _+_, _-_, _≤_, _<_}
@@ -97,7 +97,7 @@ module _ {X : Type 0} (s : Spelling X) where
     whole = sym (take-append-drop used xs) ∙ ap (λ p. p ++ drop used xs) (sym (k .written)) ∙ ap (λ p. spelled held ++ p) (k .blank)
 
     -- where the last count - m clauses begin in the used part, which us is
-    pub begins : (m : ℕ) (us : List X) (r : ℕ) → m ≤ count → us ≡ take used xs → countBy (s .ends) (drop r us) ≤ count - m →
+    begins : (m : ℕ) (us : List X) (r : ℕ) → m ≤ count → us ≡ take used xs → countBy (s .ends) (drop r us) ≤ count - m →
         ((k : ℕ) → k < r → count - m < countBy (s .ends) (drop k us)) → r ≡ length (spelled (take m held))
     begins m us r l e most least =
         begins-at (s .ends) (s .mark) (s .marks) (s .body) held
@@ -129,7 +129,7 @@ module _ {X : Type 0} (s : Spelling X) where
         (subst (λ i. Kept ys (used + n) i) m (r .0), r .1, omega (arith, r .2))
 
     -- The used part is blanked from `start` on, where the last count - m clauses begin: us is the buffer, and zs the blanks.
-    pub cut : (m start : ℕ) (us zs : List X) → m ≤ count → us ≡ xs →
+    cut : (m start : ℕ) (us zs : List X) → m ≤ count → us ≡ xs →
         start ≡ length (spelled (take m held)) →
         zs ≡ replicate (length (take (used - start) (drop start us))) (s .blank) →
         let ys = putMid start (used - start) us zs in
@@ -153,9 +153,32 @@ module _ {X : Type 0} (s : Spelling X) where
         (subst (λ i. Kept (putMid start n us zs) start i) c (r .0), r .1, omega (arith, r .2, k .fits))
 
     -- what a cut frees
-    pub freed : (m : ℕ) (ys : List X) (used′ count′ : ℕ) → Kept ys used′ count′ → s .read (take used′ ys) ≡ take m held → length ys ≡ length xs →
+    freed : (m : ℕ) (ys : List X) (used′ count′ : ℕ) → Kept ys used′ count′ → s .read (take used′ ys) ≡ take m held → length ys ≡ length xs →
         length ys - used′ ≡ (length xs - used) + sumBy (s .charge) (drop m held)
     freed m ys used′ count′ k′ r l =
         let a : used′ ≡ sumBy (s .charge) (take m held) =
         sym (length-take-le used′ ys (k′ .fits)) ∙ ap length (sym (k′ .written)) ∙ length-spelled (s .read (take used′ ys)) ∙ ap (sumBy (s .charge)) r in
         omega (arith, used-is, sumBy-take-drop (s .charge) held m, k .fits)
+
+    -- a cut back to m clauses, as a place promises it
+    abbrev Back : ℕ → List (List ℤ) → ℕ → Type 0
+    Back m held′ free′ = record { holds : held′ ≡ take m held; room : free′ ≡ (length xs - used) + sumBy (s .charge) (drop m held) }
+
+    -- of all of them nothing goes
+    pub back-none : (m : ℕ) → count ≤ m → Back m held (length xs - used)
+    back-none m l =
+        let all : held ≡ take m held = sym (take-all m held (omega (arith, k .counted))) in
+        record { holds = all; room = freed m xs used count k all refl }
+
+    -- us is the buffer, of whose used part the last count - m lines begin at `start`, and zs the blanks over these
+    pub back-some : (m start : ℕ) (us zs : List X) → m < count → us ≡ xs → countBy (s .ends) (drop start (take (used - 0) us)) ≤ count - m →
+        ((k : ℕ) → k < start → count - m < countBy (s .ends) (drop k (take (used - 0) us))) →
+        zs ≡ replicate (length (take (used - start) (drop start us))) (s .blank) →
+        let ys = putMid start (used - start) us zs in
+        Ghosts ys start m × Back m (s .read (take start ys)) (length ys - start)
+    back-some m start us zs l u most least d =
+        let size : used - 0 ≡ used = omega arith in
+        let begin = begins m (take (used - 0) us) start (omega arith) (ap₂ take size u) most least in
+        let ys = putMid start (used - start) us zs in
+        let done = cut m start us zs (omega arith) u begin d in
+        (ghosts ys start m (done .0), record { holds = done .1; room = freed m ys start m (done .0) (done .1) (done .2) })

@@ -11,7 +11,7 @@ use crate::text::numeral::number_len;
 use crate::text::numeral::write_number;
 
 // How many bytes the line of a clause takes.
-pub fn line_len(clause: &[i32]) -> usize
+pub(crate) fn line_len(clause: &[i32]) -> usize
     requires { ⌜ valid (now clause) ≡ true ⌝ }
     ensures { λ r. ⌜ r ≡ length (textLine (now (clause .entry))) ⌝ }
 {
@@ -23,7 +23,7 @@ pub fn line_len(clause: &[i32]) -> usize
 }
 
 // Writes the line of a clause over the bytes from `at` on.
-pub fn write_line(bytes: &mut [u8], at: usize, clause: &[i32])
+pub(crate) fn write_line(bytes: &mut [u8], at: usize, clause: &[i32])
     requires sound { ⌜ valid (now clause) ≡ true ⌝ }
     requires room { ⌜ at + length (textLine (now clause)) ≤ length (now bytes) ⌝ }
     ensures { λ _. ⌜ now (bytes .exit) ≡ overwritten (now (bytes .entry)) at (textLine (now (clause .entry))) ⌝ }

@@ -6,14 +6,14 @@ ghost use Rattle.std.specs.Written.{decimal};
 ghost use Rattle.spelling.specs.Spelling.{overwritten};
 
 // How many digits a number has.
-pub fn number_len(n: u64) -> usize
+pub(crate) fn number_len(n: u64) -> usize
     ensures { λ r. ⌜ r ≡ length (decimal n) ⌝ ∗ ⌜ r ≤ 20 ⌝ }
 {
     if n < 10 { 1 } else { number_len(n / 10) + 1 }
 }
 
 // Writes a number from `at` on, and returns where it ends.
-pub fn write_number(bytes: &mut [u8], at: usize, n: u64) -> usize
+pub(crate) fn write_number(bytes: &mut [u8], at: usize, n: u64) -> usize
     requires { ⌜ at + length (decimal n) ≤ length (now bytes) ⌝ }
     ensures end { λ r. ⌜ r ≡ at + length (decimal n) ⌝ }
     ensures after { λ _. ⌜ now (bytes .exit) ≡ overwritten (now (bytes .entry)) at (decimal n) ⌝ }
