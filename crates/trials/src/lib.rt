@@ -3,3 +3,5 @@
 mod drafts;
 #[cfg(test)]
 mod places_by_hand;
+#[cfg(test)]
+mod sums;

@@ -1,0 +1,3 @@
+pub mod Goods
+pub mod Sums
+pub mod Tables

@@ -1,0 +1,38 @@
+-- One turn of a loop that reduces a line; how much fuel there is does not matter.
+use mathlib.Core.Path.{_≡_, refl, sym, ap, subst, _∙_}
+use mathlib.Core.List.{List, [], _∷_, _++_, map}
+use mathlib.Core.Bool.{Bool, true, false, _||_, cond}
+use Prim.Native.Nat.{ℕ, zero, suc, _+_, _*_, _<_, _≤_}
+use native.Mathlib.Omega.{arith}
+use mathlib.Core.Logic.{_↔_}
+use lib.ListN.{length}
+use Rattle.std.specs.shelf.Lists.{All}
+use Rattle.std.proofs.shelf.Lists.{length-append}
+use Rattle.formulas.specs.Formula.{Literal, is, isnt, Clause, Formula, under, some-true, Holds}
+use Rattle.totals.specs.Items.{Item, item, fresh, Valuation}
+use Rattle.totals.specs.Adders.{Adder, full, half, Reduced, reduce}
+
+abbrev pub turn : Item → Item → Item → ℕ → Reduced → Reduced
+turn a b c n r = record { adders = full a b c ∷ r .adders; carries = fresh (n + 1) ∷ r .carries; left = r .left }
+
+pub reduce-fuel : (m m′ : ℕ) (ls : List Item) (n : ℕ) → length ls ≤ m → length ls ≤ m′ → reduce m ls n ≡ reduce m′ ls n
+reduce-fuel zero zero ls n l l′ = refl
+reduce-fuel zero (suc m′) [] n l l′ = refl
+reduce-fuel zero (suc m′) (a ∷ ls) n l l′ = absurd (omega arith)
+reduce-fuel (suc m) zero [] n l l′ = refl
+reduce-fuel (suc m) zero (a ∷ ls) n l l′ = absurd (omega arith)
+reduce-fuel (suc m) (suc m′) [] n l l′ = refl
+reduce-fuel (suc m) (suc m′) (a ∷ []) n l l′ = refl
+reduce-fuel (suc m) (suc m′) (a ∷ b ∷ []) n l l′ = refl
+reduce-fuel (suc m) (suc m′) (a ∷ b ∷ c ∷ ls) n l l′ =
+    let e = length-append ls (fresh n ∷ []) in
+    ap (turn a b c n) (reduce-fuel m m′ (ls ++ fresh n ∷ []) (n + 2) (omega arith) (omega arith))
+
+-- what the line is reduced to, and one turn of the loop
+abbrev pub reduced : List Item → ℕ → Reduced
+reduced ls n = reduce (length ls) ls n
+
+pub reduced-turn : (a b c : Item) (ls : List Item) (n : ℕ) → reduced (a ∷ b ∷ c ∷ ls) n ≡ turn a b c n (reduced (ls ++ fresh n ∷ []) (n + 2))
+reduced-turn a b c ls n =
+    let e = length-append ls (fresh n ∷ []) in
+    ap (turn a b c n) (reduce-fuel (suc (suc (length ls))) (length (ls ++ fresh n ∷ [])) (ls ++ fresh n ∷ []) (n + 2) (omega arith) (omega arith))

@@ -1,0 +1,4 @@
+pub mod Items
+pub mod Totaller
+pub mod Running
+pub mod Adders

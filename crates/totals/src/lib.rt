@@ -1,0 +1,1 @@
+// Totallers: what they mean, their law, and the two encodings of a sum. Definitions and lemmas only.
