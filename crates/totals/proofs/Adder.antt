@@ -17,21 +17,21 @@ abbrev pub ones : Valuation → List Item → ℕ
 ones v [] = 0
 ones v (a ∷ ls) = bit (v a) + ones v ls
 
-abbrev pub inputs : Adder → List Item
+abbrev pub inputs : Adder Item → List Item
 inputs (full a b c) = a ∷ b ∷ c ∷ []
 inputs (half a b) = a ∷ b ∷ []
 
-pub adder-out : (v : Valuation) (n : ℕ) (g : Adder) → Holds (under v) (adder-clauses n g) →
+pub adder-out : (v : Valuation) (n : ℕ) (g : Adder Item) → Holds (under v) (adder-clauses fresh n g) →
     ones v (inputs g) ≡ bit (v (fresh n)) + 2 * bit (v (fresh (n + 1)))
 adder-out v n (full a b c) h = grind arith
 adder-out v n (half a b) h = grind arith
 
-pub adder-in : (v : Valuation) (n : ℕ) (g : Adder) →
-    ones v (inputs g) ≡ bit (v (fresh n)) + 2 * bit (v (fresh (n + 1))) → Holds (under v) (adder-clauses n g)
+pub adder-in : (v : Valuation) (n : ℕ) (g : Adder Item) →
+    ones v (inputs g) ≡ bit (v (fresh n)) + 2 * bit (v (fresh (n + 1))) → Holds (under v) (adder-clauses fresh n g)
 adder-in v n (full a b c) h = grind arith
 adder-in v n (half a b) h = grind arith
 
-pub at-most-three : (v : Valuation) (g : Adder) → ones v (inputs g) ≤ 3
+pub at-most-three : (v : Valuation) (g : Adder Item) → ones v (inputs g) ≤ 3
 at-most-three v (full a b c) = grind arith
 at-most-three v (half a b) = grind arith
 
@@ -45,6 +45,6 @@ two-bits (suc (suc (suc (suc m)))) l = absurd (omega arith)
 pub same-bits : (s t s′ t′ : Bool) → bit s + 2 * bit t ≡ bit s′ + 2 * bit t′ → (s ≡ s′) × (t ≡ t′)
 same-bits s t s′ t′ e = grind arith
 
-pub adder-contained : (c m n : ℕ) (g : Adder) → n + 1 < m → All (Known c m) (inputs g) → Contained c m (adder-clauses n g)
+pub adder-contained : (c m n : ℕ) (g : Adder Item) → n + 1 < m → All (Known c m) (inputs g) → Contained c m (adder-clauses fresh n g)
 adder-contained c m n (full a b d) l h = let k : n < m = omega arith in let x = h .0 in let y = h .1 .0 in let z = h .1 .1 .0 in search parts 20
 adder-contained c m n (half a b) l h = let k : n < m = omega arith in let x = h .0 in let y = h .1 .0 in search parts 20

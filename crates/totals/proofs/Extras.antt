@@ -12,10 +12,10 @@ use Rattle.formulas.specs.Formula.{Literal, is, isnt, Clause, Formula, under, s
 use Rattle.totals.specs.Items.{Item, item, fresh, Valuation}
 use Rattle.totals.specs.Adders.{Adder, full, half, Reduced, reduce}
 
-abbrev pub turn : Item → Item → Item → ℕ → Reduced → Reduced
+abbrev pub turn : Item → Item → Item → ℕ → Reduced Item → Reduced Item
 turn a b c n r = record { adders = full a b c ∷ r .adders; carries = fresh (n + 1) ∷ r .carries; left = r .left }
 
-pub reduce-fuel : (m m′ : ℕ) (ls : List Item) (n : ℕ) → length ls ≤ m → length ls ≤ m′ → reduce m ls n ≡ reduce m′ ls n
+pub reduce-fuel : (m m′ : ℕ) (ls : List Item) (n : ℕ) → length ls ≤ m → length ls ≤ m′ → reduce fresh m ls n ≡ reduce fresh m′ ls n
 reduce-fuel zero zero ls n l l′ = refl
 reduce-fuel zero (suc m′) [] n l l′ = refl
 reduce-fuel zero (suc m′) (a ∷ ls) n l l′ = absurd (omega arith)
@@ -29,8 +29,8 @@ reduce-fuel (suc m) (suc m′) (a ∷ b ∷ c ∷ ls) n l l′ =
     ap (turn a b c n) (reduce-fuel m m′ (ls ++ fresh n ∷ []) (n + 2) (omega arith) (omega arith))
 
 -- what the line is reduced to, and one turn of the loop
-abbrev pub reduced : List Item → ℕ → Reduced
-reduced ls n = reduce (length ls) ls n
+abbrev pub reduced : List Item → ℕ → Reduced Item
+reduced ls n = reduce fresh (length ls) ls n
 
 pub reduced-turn : (a b c : Item) (ls : List Item) (n : ℕ) → reduced (a ∷ b ∷ c ∷ ls) n ≡ turn a b c n (reduced (ls ++ fresh n ∷ []) (n + 2))
 reduced-turn a b c ls n =

@@ -19,12 +19,12 @@ pub ones-append : (v : Valuation) (ls ms : List Item) → ones v (ls ++ ms) ≡ 
 ones-append v [] ms = omega arith
 ones-append v (a ∷ ls) ms = omega (arith, ones-append v ls ms)
 
-pub record Sound (c n : ℕ) (r : Reduced) : Type 0 where
+pub record Sound (c n : ℕ) (r : Reduced Item) : Type 0 where
   pub made : Made c n (r .adders)
   pub carries : All (Known c (n + 2 * length (r .adders))) (r .carries)
   pub left : All (Known c (n + 2 * length (r .adders))) (r .left)
 
-pub reduce-sound : (m : ℕ) (ls : List Item) (c n : ℕ) → All (Known c n) ls → Sound c n (reduce m ls n)
+pub reduce-sound : (m : ℕ) (ls : List Item) (c n : ℕ) → All (Known c n) ls → Sound c n (reduce fresh m ls n)
 reduce-sound zero ls c n h = record { made = tt; carries = tt; left = all-inside c n (n + 0) (omega arith) ls h }
 reduce-sound (suc m) [] c n h = record { made = tt; carries = tt; left = tt }
 reduce-sound (suc m) (a ∷ []) c n h = record { made = tt; carries = tt; left = all-inside c n (n + 0) (omega arith) (a ∷ []) h }
@@ -32,7 +32,7 @@ reduce-sound (suc m) (a ∷ b ∷ []) c n h =
     record { made = ((h .0, h .1), tt); carries = (omega arith, tt); left = (omega arith, tt) }
 reduce-sound (suc m) (a ∷ b ∷ d ∷ ls) c n h =
     let new = all-append (Known c (n + 2)) ls (fresh n ∷ []) (all-inside c n (n + 2) (omega arith) ls (h .1 .1 .1)) (omega arith, tt) in
-    let r = reduce m (ls ++ fresh n ∷ []) (n + 2) in
+    let r = reduce fresh m (ls ++ fresh n ∷ []) (n + 2) in
     let s = reduce-sound m (ls ++ fresh n ∷ []) c (n + 2) new in
     let le : n + 2 + 2 * length (r .adders) ≤ n + 2 * suc (length (r .adders)) = omega arith in
     record {
@@ -41,22 +41,22 @@ reduce-sound (suc m) (a ∷ b ∷ d ∷ ls) c n h =
       left = all-inside c _ _ le (r .left) (s .left);
     }
 
-pub reduce-worth : (v : Valuation) (m : ℕ) (ls : List Item) (n : ℕ) → Holds (under v) (wired n (reduce m ls n .adders)) →
-    ones v ls ≡ ones v (reduce m ls n .left) + 2 * ones v (reduce m ls n .carries)
+pub reduce-worth : (v : Valuation) (m : ℕ) (ls : List Item) (n : ℕ) → Holds (under v) (wired fresh n (reduce fresh m ls n .adders)) →
+    ones v ls ≡ ones v (reduce fresh m ls n .left) + 2 * ones v (reduce fresh m ls n .carries)
 reduce-worth v zero ls n h = omega arith
 reduce-worth v (suc m) [] n h = refl
 reduce-worth v (suc m) (a ∷ []) n h = omega arith
 reduce-worth v (suc m) (a ∷ b ∷ []) n h = omega (arith, adder-out v n (half a b) h)
 reduce-worth v (suc m) (a ∷ b ∷ c ∷ ls) n h =
-    let r = reduce m (ls ++ fresh n ∷ []) (n + 2) in
+    let r = reduce fresh m (ls ++ fresh n ∷ []) (n + 2) in
     omega (
       arith,
-      adder-out v n (full a b c) (holds-left v (adder-clauses n (full a b c)) (wired (n + 2) (r .adders)) h),
+      adder-out v n (full a b c) (holds-left v (adder-clauses fresh n (full a b c)) (wired fresh (n + 2) (r .adders)) h),
       ones-append v ls (fresh n ∷ []),
-      reduce-worth v m (ls ++ fresh n ∷ []) (n + 2) (holds-right v (adder-clauses n (full a b c)) (wired (n + 2) (r .adders)) h),
+      reduce-worth v m (ls ++ fresh n ∷ []) (n + 2) (holds-right v (adder-clauses fresh n (full a b c)) (wired fresh (n + 2) (r .adders)) h),
     )
 
-pub reduce-thin : (m : ℕ) (ls : List Item) (n : ℕ) → length ls ≤ m → length (reduce m ls n .left) ≤ 1
+pub reduce-thin : (m : ℕ) (ls : List Item) (n : ℕ) → length ls ≤ m → length (reduce fresh m ls n .left) ≤ 1
 reduce-thin zero ls n l = omega arith
 reduce-thin (suc m) [] n l = omega arith
 reduce-thin (suc m) (a ∷ []) n l = omega arith
