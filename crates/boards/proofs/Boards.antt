@@ -1,7 +1,7 @@
 -- Boards are told by how high and how wide their boxes are, and are not large.
-use mathlib.Core.Path.{_≡_, refl}
+use mathlib.Core.Path.{_≡_}
 use mathlib.Core.HLevel.{isProp→PathP}
-use Prim.Native.Nat.{ℕ, _*_, _≤_}
+use Prim.Native.Nat.{_*_, _≤_}
 use native.Mathlib.Bridge.{le-prop}
 use native.Mathlib.Nat.{mul-le-mul}
 use Rattle.boards.specs.declared.board.Board.{Board}

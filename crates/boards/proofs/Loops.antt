@@ -1,23 +1,22 @@
 -- The base clauses, as loops write them.
 use mathlib.Core.Path.{_≡_, refl, sym, ap, ap₂, _∙_}
-use mathlib.Core.List.{List, [], _∷_, _++_, map, append-assoc}
-use mathlib.Core.Bool.{Bool, true}
+use mathlib.Core.List.{List, [], _∷_, _++_, map}
+use mathlib.Core.Bool.{true}
 use Prim.Native.Nat.{ℕ, zero, suc, _+_, _-_, _*_, _≤_, _<_}
 use native.Mathlib.Nat.{not-suc-le-zero, le-of-suc-le-suc, mul-le-mul}
 use native.Mathlib.Numerals.{add-one}
 use native.Mathlib.Omega.{arith}
 use lib.Dec.{leb}
-use lib.IntN.{ℤ, negℤ, pos}
-use lib.ListN.{length, getD, take, drop, length-drop}
+use lib.IntN.{ℤ, pos}
+use lib.ListN.{length, getD, drop}
 use Rattle.std.specs.Iters.{counting}
 use Rattle.std.specs.Joined.{joined}
-use Rattle.std.proofs.shelf.Counted.{getD-counting}
-use Rattle.std.proofs.shelf.Lists.{getD-default, map-append, take-all}
+use Rattle.std.proofs.shelf.Lists.{getD-default, map-append}
 use Rattle.std.proofs.shelf.Ways.{tells}
 use Rattle.std.proofs.shelf.Tests.{and-from, le-leb}
 use Rattle.formulas.specs.Clause.{every, right-length, usable, valid}
 use Rattle.formulas.specs.Formula.{is}
-use Rattle.formulas.specs.Numbered.{numbered, signed}
+use Rattle.formulas.specs.Numbered.{signed}
 use Rattle.formulas.proofs.Lists.{joined-append}
 use Rattle.formulas.proofs.Numbered.{numbered-joined, numbered-map}
 use Rattle.boards.specs.declared.board.Board.{Board}
@@ -25,18 +24,7 @@ use Rattle.boards.specs.Board.{side, cells, lines, pairs}
 use Rattle.boards.specs.Atoms.{Atom, at, number, cell-variables}
 use Rattle.boards.specs.Base.{not-both, some-digit, no-later-digit, no-two-digits, not-same, differs, no-repeat, some-digit-each, one-digit-each, each-line-apart, base, clauses-of}
 
--- clauses of usable literals
-pub usable-not : (v : ℕ) → 1 ≤ v → v ≤ 65535 → usable (negℤ (pos v)) ≡ true
-usable-not zero l u = absurd (omega arith)
-usable-not (suc v) l u = grind (arith, tells)
-
-pub valid-both : (v w : ℕ) → 1 ≤ v → v ≤ 65535 → 1 ≤ w → w ≤ 65535 → valid (negℤ (pos v) ∷ negℤ (pos w) ∷ []) ≡ true
-valid-both v w lv uv lw uw = let p = usable-not v lv uv in let q = usable-not w lw uw in grind (arith, tells)
-
 -- the element that a loop is at
-pub at-counting : (a n i x : ℕ) → i < n → a + i ≡ x → getD (counting a n) i x ≡ x
-at-counting a n i x l e = getD-counting a n i x l ∙ e
-
 pub at-list : {X : Type 0} (xs : List X) (i : ℕ) (d : X) → i < length xs → getD xs i (getD xs i d) ≡ getD xs i d
 at-list xs i d l = getD-default xs i (getD xs i d) d l
 
@@ -56,10 +44,6 @@ at-tails xs i t l e = go xs i l ∙ sym e
     go [] i l = absurd (not-suc-le-zero l)
     go (x ∷ xs) zero l = refl
     go (x ∷ xs) (suc i) l = go xs i (le-of-suc-le-suc l) ∙ ap (λ k. (getD xs i 0, drop k (x ∷ xs))) (ap suc (add-one i) ∙ sym (add-one (suc i)))
-
--- the rest of a list, as a range without an end has it
-pub rest-is : (xs : List ℕ) (k : ℕ) → take (length xs - k) (drop k xs) ≡ drop k xs
-rest-is xs k = take-all (length xs - k) (drop k xs) (omega (arith, length-drop k xs))
 
 joined-map : {X Y A : Type 0} (f : Y → List A) (h : X → Y) (xs : List X) → joined f (map h xs) ≡ joined (λ x. f (h x)) xs
 joined-map f h [] = refl

@@ -1,5 +1,5 @@
 -- What a line says, word by word.
-use mathlib.Core.Path.{_≡_, refl, sym, ap, _∙_}
+use mathlib.Core.Path.{_≡_, sym, ap, _∙_}
 use mathlib.Core.Logic.{inl, inr}
 use mathlib.Core.List.{List, [], _∷_}
 use mathlib.Core.Bool.{Bool, true, false, not, cond}
@@ -16,7 +16,6 @@ use Rattle.std.specs.declared.option.Option.the-variants.{Some, None}
 use Rattle.std.proofs.shelf.Equals.{matches-decides, sameBytes-decides}
 use Rattle.std.proofs.shelf.Tests.{cases-bool, cond-true, cond-false}
 use Rattle.desk.specs.declared.statement.Reason.the-variants.{SideWords, UnknownStatement}
-use Rattle.desk.specs.declared.statement.Statement.{Statement}
 use Rattle.desk.specs.declared.statement.Statement.the-variants.{Wrong}
 use Rattle.desk.specs.DraftText.{code-of, digit, known, says, says-side, side-number, statement-of, words-of}
 

@@ -1,14 +1,15 @@
 -- Lines and words, one after the other.
-use mathlib.Core.Path.{_≡_, refl, sym, ap, subst, _∙_}
+use mathlib.Core.Path.{_≡_, refl, sym, ap, _∙_}
 use mathlib.Core.Logic.{inl, inr}
 use mathlib.Core.List.{List, [], _∷_, _++_}
-use mathlib.Core.Bool.{Bool, true, false, not, cond}
+use mathlib.Core.Bool.{Bool, true, not}
 use Prim.Native.Nat.{ℕ, suc, _+_, _-_, _≤_, _<_}
 use native.Mathlib.Numerals.{add-one, one-add}
 use native.Mathlib.Omega.{arith}
 use lib.ListN.{length, take, drop, length-drop}
 use Rattle.std.specs.shelf.Lists.{kept-by, leading}
-use Rattle.std.proofs.shelf.Lists.{drop-drop, length-take-le, take-all}
+use Rattle.std.proofs.shelf.Lists.{drop-drop, length-take-le, nil-from-length, take-all}
+use Rattle.formulas.proofs.Lists.{rest-is}
 use Rattle.std.proofs.shelf.Sums.{leading-le-length}
 use Rattle.std.proofs.shelf.Tests.{cases-bool, cases-lt, cond-true, le-leb}
 use Rattle.spelling.specs.Spelling.{onto-first, pieces}
@@ -45,10 +46,6 @@ module _ {X : Type 0} (ends : X → Bool) (e : X) (marks : ends e ≡ true) wher
             c ∙ ap (onto-first x) ih ∙ ap (λ k. take k (x ∷ xs) ∷ pieces ends (drop (leading plain xs + 1) xs ++ e ∷ [])) (sym z) ∙
             ap (λ q. take (leading plain (x ∷ xs)) (x ∷ xs) ∷ pieces ends (q ++ e ∷ [])) (sym d)
       ]
-
--- the rest of a list, as a range without an end has it
-rest-is : (xs : List ℕ) (k : ℕ) → take (length xs - k) (drop k xs) ≡ drop k xs
-rest-is xs k = take-all (length xs - k) (drop k xs) (omega (arith, length-drop k xs))
 
 -- the end of the first line is at `end`
 module _ (text : List ℕ) (end : ℕ) (at : end ≡ 0 + leading (λ b. not (isLineFeed b)) (drop 0 text)) where
@@ -117,7 +114,7 @@ first-of ys l =
       | inr all ↦
           let e : n ≡ length ys = omega arith in
           let w : take n ys ≡ ys = take-all n ys all in
-          let none : drop n ys ≡ [] = empty (drop n ys) (omega (arith, length-drop n ys)) in
+          let none : drop n ys ≡ [] = nil-from-length (drop n ys) (omega (arith, length-drop n ys)) in
           ap (kept-by some) (cut-none blank 32 refl ys e ∙ ap (λ q. q ∷ []) (sym w)) ∙ kept [] ∙ ap (λ q. take n ys ∷ words-of q) (sym none)
     ]
   where
@@ -130,10 +127,6 @@ first-of ys l =
               let z : leading ink (x ∷ xs) ≡ suc (leading ink xs) = rw t (one-add (leading ink xs)) in
               ap (λ k. leading ink (drop k (x ∷ xs))) z ∙ ended xs
         ]
-
-    empty : {X : Type 0} (xs : List X) → length xs ≡ 0 → xs ≡ []
-    empty [] h = refl
-    empty (x ∷ xs) h = absurd (omega arith)
 
 -- the first word is from `start` to `end`
 module _ (bytes : List ℕ) (start end : ℕ) (s : start ≡ 0 + leading blank (drop 0 bytes)) (e : end ≡ start + leading ink (drop start bytes)) where

@@ -1,8 +1,8 @@
 -- What comes of opening a draft, by how far it got.
-use mathlib.Core.Path.{_≡_, refl, sym, ap, ap₂, _∙_}
-use mathlib.Core.List.{List, [], _∷_, _++_}
+use mathlib.Core.Path.{_≡_, refl, sym, ap, _∙_}
+use mathlib.Core.List.{_++_}
 use mathlib.Core.Bool.{Bool, true, false, cond}
-use Prim.Native.Nat.{ℕ, _+_, _≤_, _<_}
+use Prim.Native.Nat.{ℕ, _+_, _<_}
 use native.Mathlib.Omega.{arith}
 use lib.Dec.{eqb, leb}
 use lib.ListN.{length, take, drop}
@@ -13,10 +13,10 @@ use Rattle.std.specs.declared.result.Result.the-variants.{Ok, Err}
 use Rattle.std.specs.shelf.Lists.{sumBy}
 use Rattle.std.specs.declared.option.Option.{Option}
 use Rattle.std.specs.declared.option.Option.the-variants.{Some, None}
+use Rattle.std.proofs.shelf.Lists.{nil-from-length}
 use Rattle.std.proofs.shelf.Tests.{cond-true, cond-false, eq-eqb, ne-eqb}
 use Rattle.places.specs.declared.fault.PlaceFault.{PlaceFault}
 use Rattle.places.specs.declared.fault.PlaceFault.the-variants.{NoSpace}
-use Rattle.places.specs.declared.fault.Refusal.{Refusal}
 use Rattle.places.specs.declared.place.Place.{Ghosts}
 use Rattle.places.specs.Fault.{by-place}
 use Rattle.places.specs.Written.{fitting, Writes}
@@ -24,14 +24,10 @@ use Rattle.places.proofs.Written.{wrote-all}
 use Rattle.boards.specs.declared.board.Board.{Board}
 use Rattle.boards.specs.Board.{board-of}
 use Rattle.draft.specs.declared.fault.DraftFault.{DraftFault}
-use Rattle.draft.specs.declared.fault.DraftFault.the-variants.{Side, NotEmpty, Place}
+use Rattle.draft.specs.declared.fault.DraftFault.the-variants.{NotEmpty, Place}
 use Rattle.draft.specs.Fault.{by-draft, refusal}
 use Rattle.draft.specs.declared.state.Draft.{Draft}
 use Rattle.draft.specs.Opening.{Opened, base-clauses, openFault, openFaultOn, openRefusal, openRefusalOn}
-
-none-empty : {X : Type 0} (xs : List X) → length xs ≡ 0 → xs ≡ []
-none-empty [] e = refl
-none-empty (x ∷ xs) e = absurd (omega arith)
 
 module _ {P : Type 0} (𝓟 : Ghosts P) (side : ℕ) (p : P) where
   -- a fault as it is reported
@@ -72,13 +68,13 @@ module _ {P : Type 0} (𝓟 : Ghosts P) (side : ℕ) (p : P) where
       pub new : Writes 𝓟 (base-clauses b) p q None → (𝓟 .held q ≡ base-clauses b) × (𝓟 .free q + sumBy (𝓟 .charge) (base-clauses b) ≡ 𝓟 .free p)
       new w =
           let (fits, holds, room) = wrote-all (𝓟 .charge) (base-clauses b) (𝓟 .held p) (𝓟 .free p) (𝓟 .held q) (𝓟 .free q) w in
-          (holds ∙ ap (λ l. l ++ base-clauses b) (none-empty (𝓟 .held p) empty), room)
+          (holds ∙ ap (λ l. l ++ base-clauses b) (nil-from-length (𝓟 .held p) empty), room)
 
       -- after a fault all is cut: r is as p was
       pub undone : (o : Option PlaceFault) → Writes 𝓟 (base-clauses b) p q o → (r : P) → 𝓟 .held r ≡ take 0 (𝓟 .held q) →
           𝓟 .free r ≡ 𝓟 .free q + sumBy (𝓟 .charge) (drop 0 (𝓟 .held q)) → (𝓟 .held r ≡ 𝓟 .held p) × (𝓟 .free r ≡ 𝓟 .free p)
       undone o w r holds room =
-          let none = none-empty (𝓟 .held p) empty in
+          let none = nil-from-length (𝓟 .held p) empty in
           let all : 𝓟 .held q ≡ take (fitting (𝓟 .charge) (𝓟 .free p) (base-clauses b)) (base-clauses b) = w .holds ∙ ap (λ l. l ++ take (fitting (𝓟 .charge) (𝓟 .free p) (base-clauses b)) (base-clauses b)) none in
           (holds ∙ sym none, room ∙ ap (λ l. 𝓟 .free q + sumBy (𝓟 .charge) l) all ∙ w .room)
 

@@ -2,14 +2,13 @@
 use mathlib.Core.Path.{_≡_, refl, sym, ap, _∙_}
 use mathlib.Core.Logic.{inl, inr}
 use mathlib.Core.List.{List, [], _∷_}
-use mathlib.Core.Bool.{Bool, true, false, cond, _&&_}
+use mathlib.Core.Bool.{true, false, cond, _&&_}
 use Prim.Native.Nat.{ℕ, zero, suc, _+_, _≤_, _<_}
 use native.Mathlib.Omega.{arith}
 use lib.Dec.{eqb, leb}
 use lib.ListN.{length, getD, drop}
 use Rattle.std.specs.declared.option.Option.the-variants.{Some, None}
 use Rattle.std.proofs.shelf.Tests.{and-from, cases-bool, cond-true, cond-false, eq-eqb, le-leb, ne-eqb}
-use Rattle.std.proofs.shelf.Ways.{tells}
 use Rattle.totallers.specs.Writing.{good-item, good-items, itemsFault}
 use Rattle.totallers.specs.declared.fault.TotallerFault.the-variants as fault
 

@@ -1,13 +1,13 @@
 -- What the clauses of one adder say: what goes in is what comes out.
-use mathlib.Core.Path.{_≡_, refl, sym, ap, subst, _∙_}
-use mathlib.Core.List.{List, [], _∷_, _++_}
-use mathlib.Core.Bool.{Bool, true, false, not, _||_, cond}
+use mathlib.Core.Path.{_≡_, refl}
+use mathlib.Core.List.{List, [], _∷_}
+use mathlib.Core.Bool.{Bool, true, false, cond}
 use Prim.Native.Nat.{ℕ, zero, suc, _+_, _*_, _<_, _≤_}
 use native.Mathlib.Omega.{arith}
-use Rattle.formulas.specs.Formula.{Literal, is, isnt, Formula, Clause, Holds, under}
-use Rattle.totals.specs.Items.{Item, item, fresh, Valuation, Known, Contained}
+use Rattle.formulas.specs.Formula.{Holds, under}
+use Rattle.totals.specs.Items.{Item, fresh, Valuation, Known, Contained}
 use Rattle.std.specs.shelf.Lists.{All}
-use Rattle.totals.specs.Adders.{Adder, full, half, full-clauses, half-clauses, adder-clauses}
+use Rattle.totals.specs.Adders.{Adder, full, half, adder-clauses}
 
 abbrev pub bit : Bool → ℕ
 bit b = cond b 1 0

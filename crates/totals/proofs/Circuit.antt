@@ -1,18 +1,18 @@
 -- Adders each of which adds items and what earlier ones gave: their fresh variables have one value each.
-use mathlib.Core.Path.{_≡_, refl, sym, ap, subst, _∙_}
-use mathlib.Core.Logic.{_⊎_, inl, inr}
+use mathlib.Core.Path.{_≡_, refl, sym, ap, _∙_}
+use mathlib.Core.Logic.{inl, inr}
 use mathlib.Core.List.{List, [], _∷_, _++_}
-use mathlib.Core.Bool.{Bool, true, false, not, _||_, cond}
-use Prim.Native.Nat.{ℕ, zero, suc, _+_, _*_, _<_, _≤_}
+use mathlib.Core.Bool.{Bool, false}
+use Prim.Native.Nat.{ℕ, _+_, _*_, _≤_}
 use native.Mathlib.Omega.{arith}
 use lib.ListN.{length, getD}
 use Rattle.std.specs.shelf.Lists.{All}
 use Rattle.std.proofs.shelf.Elements.{all-append, all-weaker}
 use Rattle.std.proofs.shelf.Lists.{length-append, getD-append-left, getD-append-add, getD-at}
 use Rattle.std.proofs.shelf.Tests.{cases-eq}
-use Rattle.formulas.specs.Formula.{Formula, Clause, Holds, some-true, variable, under}
+use Rattle.formulas.specs.Formula.{Holds, under}
 use Rattle.totals.specs.Items.{Item, item, fresh, Valuation, valued, Known, Contained}
-use Rattle.totals.specs.Adders.{Adder, full, half, adder-clauses, wired}
+use Rattle.totals.specs.Adders.{Adder, adder-clauses, wired}
 use Rattle.totals.proofs.Formulas.{all-left, all-right}
 use Rattle.totals.proofs.Adder.{bit, ones, inputs, adder-in, adder-out, at-most-three, two-bits, same-bits, adder-contained}
 

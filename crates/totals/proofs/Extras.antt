@@ -1,16 +1,12 @@
 -- One turn of a loop that reduces a line; how much fuel there is does not matter.
-use mathlib.Core.Path.{_≡_, refl, sym, ap, subst, _∙_}
-use mathlib.Core.List.{List, [], _∷_, _++_, map}
-use mathlib.Core.Bool.{Bool, true, false, _||_, cond}
-use Prim.Native.Nat.{ℕ, zero, suc, _+_, _*_, _<_, _≤_}
+use mathlib.Core.Path.{_≡_, refl, ap}
+use mathlib.Core.List.{List, [], _∷_, _++_}
+use Prim.Native.Nat.{ℕ, zero, suc, _+_, _≤_}
 use native.Mathlib.Omega.{arith}
-use mathlib.Core.Logic.{_↔_}
 use lib.ListN.{length}
-use Rattle.std.specs.shelf.Lists.{All}
 use Rattle.std.proofs.shelf.Lists.{length-append}
-use Rattle.formulas.specs.Formula.{Literal, is, isnt, Clause, Formula, under, some-true, Holds}
-use Rattle.totals.specs.Items.{Item, item, fresh, Valuation}
-use Rattle.totals.specs.Adders.{Adder, full, half, Reduced, reduce}
+use Rattle.totals.specs.Items.{Item, fresh}
+use Rattle.totals.specs.Adders.{full, Reduced, reduce}
 
 abbrev pub turn : Item → Item → Item → ℕ → Reduced Item → Reduced Item
 turn a b c n r = record { adders = full a b c ∷ r .adders; carries = fresh (n + 1) ∷ r .carries; left = r .left }

@@ -1,20 +1,18 @@
 -- More lines than the weights need change nothing: they are empty.
 use mathlib.Core.Path.{_≡_, refl, sym, ap, subst, _∙_}
 use mathlib.Core.List.{List, [], _∷_, _++_}
-use mathlib.Core.Bool.{Bool, true, false, cond}
-use Prim.Native.Nat.{ℕ, zero, suc, _+_, _*_, _/_, _%_, _^_, _<_, _≤_}
+use mathlib.Core.Bool.{true, false}
+use Prim.Native.Nat.{ℕ, zero, suc, _+_, _*_, _%_, _^_, _<_, _≤_}
 use native.Mathlib.Omega.{arith}
 use native.Mathlib.Nat.{div-eq-of-lt, zero-add, suc-add}
 use lib.Dec.{eqb}
 use lib.ListN.{length, replicate}
 use Rattle.std.proofs.shelf.Lists.{length-append, nil-from-length, append-nil, append-assoc}
 use Rattle.std.proofs.shelf.Bits.{pow-below}
-use Rattle.std.proofs.shelf.Ways.{tells}
 use Rattle.formulas.specs.Formula.{Formula}
 use Rattle.totals.specs.Items.{Item, item, fresh, Valuation}
 use Rattle.totals.specs.Adders.{Adder, reduce, has-bit, with-bit, Network, lines, close, closing, wired}
-use Rattle.totals.proofs.Adder.{bit, ones}
-use Rattle.totals.proofs.Reduce.{ones-append}
+use Rattle.totals.proofs.Adder.{ones}
 use Rattle.totals.proofs.Network.{weigh, weigh-line, lines-count}
 
 abbrev all-true : Valuation

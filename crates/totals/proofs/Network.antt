@@ -1,25 +1,24 @@
 -- The lines of a network, and the law.
 use mathlib.Core.Path.{_≡_, refl, sym, ap, subst, _∙_}
 use mathlib.Core.List.{List, [], _∷_, _++_, append-assoc}
-use mathlib.Core.Bool.{Bool, true, false, not, _||_, cond}
-use Prim.Native.Nat.{ℕ, zero, suc, _+_, _*_, _/_, _%_, _^_, _<_, _≤_}
+use mathlib.Core.Bool.{Bool, true, false, cond}
+use Prim.Native.Nat.{ℕ, zero, suc, _+_, _*_, _/_, _^_, _<_, _≤_}
 use native.Mathlib.Omega.{arith}
-use lib.Dec.{eqb}
-use lib.ListN.{length, getD, drop}
+use lib.ListN.{length, drop}
 use Rattle.std.specs.shelf.Lists.{All}
 use Rattle.std.proofs.shelf.Elements.{all-append, all-weaker}
 use Rattle.std.proofs.shelf.Bits.{shr-shr}
 use Rattle.std.proofs.shelf.Lists.{drop-more, ext-getD, length-append}
 use Rattle.std.proofs.shelf.Tests.{cond-both}
 use Rattle.std.proofs.shelf.Ways.{tells}
-use Rattle.formulas.specs.Formula.{Formula, Clause, Holds, under}
+use Rattle.formulas.specs.Formula.{Holds, under}
 use Rattle.totals.specs.Items.{Item, item, fresh, Valuation, valued, Known, Contained, Sized}
-use Rattle.totals.specs.Totaller.{total, Fulfils, Exact, Lawful, Weight}
-use Rattle.totals.specs.Adders.{Adder, full, half, adder-clauses, wired, Reduced, reduce, has-bit, with-bit, Network, lines, close, closing, network, adders}
+use Rattle.totals.specs.Totaller.{total, Exact, Lawful, Weight}
+use Rattle.totals.specs.Adders.{Adder, full, half, adder-clauses, wired, reduce, has-bit, with-bit, Network, lines, close, closing, network, adders}
 use Rattle.totals.proofs.Formulas.{holds-left, holds-right, holds-both}
-use Rattle.totals.proofs.Adder.{bit, ones, inputs}
-use Rattle.totals.proofs.Circuit.{Made, Same, all-inside, same-all, Extends, extend, wired-contained}
-use Rattle.totals.proofs.Reduce.{ones-append, Sound, reduce-sound, reduce-worth, reduce-thin}
+use Rattle.totals.proofs.Adder.{bit, ones}
+use Rattle.totals.proofs.Circuit.{Made, Same, all-inside, same-all, extend, wired-contained}
+use Rattle.totals.proofs.Reduce.{ones-append, reduce-sound, reduce-worth, reduce-thin}
 
 -- adders after adders
 wired-append : (gs hs : List (Adder Item)) (n : ℕ) → wired fresh n (gs ++ hs) ≡ wired fresh n gs ++ wired fresh (n + 2 * length gs) hs

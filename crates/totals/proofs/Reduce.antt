@@ -1,18 +1,17 @@
 -- A line's adders: they add what is there, they keep its worth, and leave one atom at most.
-use mathlib.Core.Path.{_≡_, refl, sym, ap, subst, _∙_}
+use mathlib.Core.Path.{_≡_, refl}
 use mathlib.Core.List.{List, [], _∷_, _++_}
-use mathlib.Core.Bool.{Bool, true, false, not, _||_, cond}
-use Prim.Native.Nat.{ℕ, zero, suc, _+_, _*_, _<_, _≤_}
+use Prim.Native.Nat.{ℕ, zero, suc, _+_, _*_, _≤_}
 use native.Mathlib.Omega.{arith}
-use lib.ListN.{length, getD}
+use lib.ListN.{length}
 use Rattle.std.specs.shelf.Lists.{All}
 use Rattle.std.proofs.shelf.Elements.{all-append}
 use Rattle.std.proofs.shelf.Lists.{length-append}
-use Rattle.formulas.specs.Formula.{Formula, Clause, Holds, some-true, under}
-use Rattle.totals.specs.Items.{Item, item, fresh, Valuation, valued, Known}
-use Rattle.totals.specs.Adders.{Adder, full, half, adder-clauses, wired, Reduced, reduce}
+use Rattle.formulas.specs.Formula.{Holds, under}
+use Rattle.totals.specs.Items.{Item, fresh, Valuation, Known}
+use Rattle.totals.specs.Adders.{full, half, adder-clauses, wired, Reduced, reduce}
 use Rattle.totals.proofs.Formulas.{holds-left, holds-right}
-use Rattle.totals.proofs.Adder.{bit, ones, inputs, adder-in, adder-out}
+use Rattle.totals.proofs.Adder.{ones, adder-out}
 use Rattle.totals.proofs.Circuit.{Made, all-inside}
 
 pub ones-append : (v : Valuation) (ls ms : List Item) → ones v (ls ++ ms) ≡ ones v ls + ones v ms

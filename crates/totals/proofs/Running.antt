@@ -1,25 +1,23 @@
 -- The running totals are lawful.
-use mathlib.Core.Path.{_≡_, refl, sym, ap, subst, _∙_}
+use mathlib.Core.Path.{_≡_, sym, ap, _∙_}
 use mathlib.Core.List.{List, [], _∷_, _++_, map}
-use mathlib.Core.Bool.{Bool, true, false, not, _||_, cond}
+use mathlib.Core.Bool.{Bool, true, false, cond}
 use Prim.Native.Nat.{ℕ, zero, suc, _+_, _-_, _*_, _/_, _%_, _<_, _≤_}
 use native.Mathlib.Omega.{arith}
-use native.Mathlib.Nat.{le-of-suc-le-suc, mul-le-mul, not-suc-le-zero, zero-add}
+use native.Mathlib.Nat.{mul-le-mul, not-suc-le-zero, zero-add}
 use native.Mathlib.Numerals.{add-one, one-add}
 use lib.Dec.{leb, eqb}
 use lib.ListN.{length, getD, take}
 use Rattle.std.specs.Iters.{counting}
-use Rattle.std.specs.Joined.{joined}
 use Rattle.std.specs.shelf.Lists.{All}
 use Rattle.std.proofs.shelf.Elements.{all-append}
 use Rattle.std.proofs.shelf.Lists.{take-all, ext-getD}
 use Rattle.std.proofs.shelf.Counted.{length-map-counting, getD-map-counting}
 use Rattle.std.proofs.shelf.Bits.{div-mul-add, mod-mul-add, div-add-mod', div-below, mod-below, mul-add-lt}
-use Rattle.std.proofs.shelf.Tests.{eqb-true, eq-eqb}
 use Rattle.std.proofs.shelf.Ways.{tells}
-use Rattle.formulas.specs.Formula.{Literal, is, isnt, Formula, Clause, Holds, under, some-true, variable}
-use Rattle.totals.specs.Items.{Item, item, fresh, Valuation, valued, Known, Contained, Sized}
-use Rattle.totals.specs.Totaller.{total, Fulfils, Exact, Lawful, Weight}
+use Rattle.formulas.specs.Formula.{is, isnt, Clause, Holds, under, some-true, variable}
+use Rattle.totals.specs.Items.{Item, item, Valuation, valued, Known, Contained, Sized}
+use Rattle.totals.specs.Totaller.{total, Exact, Lawful}
 use Rattle.totals.specs.Running.{at, as-unless, first-row, step, row, rows, running}
 use Rattle.totals.proofs.Formulas.{all-left, all-right, all-joined-in, all-joined-out, each-in, each-out}
 

@@ -5,7 +5,7 @@ use Prim.Native.Nat.{ℕ, zero, suc, _+_, _*_, _/_, _%_, _^_}
 use lib.Dec.{leb, eqb}
 use lib.ListN.{length}
 use Rattle.formulas.specs.Formula.{is, isnt, Formula}
-use Rattle.totals.specs.Items.{Item, item, fresh}
+use Rattle.totals.specs.Items.{item, fresh}
 use Rattle.totals.specs.Totaller.{Totaller}
 
 -- an adder is known by what it adds; its sum and its carry are two fresh variables, one after the other

@@ -3,7 +3,7 @@ use mathlib.Core.List.{_++_}
 use Rattle.std.specs.Results.{errPart}
 use Rattle.places.specs.Written.{Writes}
 use Rattle.places.proofs.Written.{writes-then, writes-stops, writes-exit}
-use Rattle.boards.specs.Base.{base, clauses-of, each-line-apart, one-digit-each, some-digit-each}
+use Rattle.boards.specs.Base.{clauses-of, each-line-apart, one-digit-each, some-digit-each}
 use Rattle.boards.proofs.Loops.{base-is}
 use Rattle.boards.proofs.base.write_base.Needs as need
 

@@ -3,7 +3,8 @@ use Rattle.places.proofs.Written.{writes-none, loop-more, loop-exit, loop-all}
 use Rattle.std.specs.Iters.{counting}
 use Rattle.std.proofs.shelf.Counted.{length-counting}
 use Rattle.boards.specs.Board.{cells}
-use Rattle.boards.proofs.Loops.{at-counting, one-each-is, one-turn}
+use Rattle.formulas.proofs.Lists.{at-counting}
+use Rattle.boards.proofs.Loops.{one-each-is, one-turn}
 use Rattle.boards.proofs.base.write_single_digits.Needs as need
 
 pub loop-cell-holds : need.loop-cell-holds

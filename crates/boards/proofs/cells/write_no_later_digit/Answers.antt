@@ -9,7 +9,8 @@ use Rattle.places.specs.Written.{Writes}
 use Rattle.std.specs.Iters.{counting}
 use Rattle.std.proofs.shelf.Counted.{length-counting}
 use Rattle.boards.specs.Board.{side}
-use Rattle.boards.proofs.Loops.{at-counting, later-is, later-turn}
+use Rattle.formulas.proofs.Lists.{at-counting}
+use Rattle.boards.proofs.Loops.{later-is, later-turn}
 use Rattle.boards.proofs.cells.write_no_later_digit.Needs as need
 
 pub loop-index-holds : need.loop-index-holds

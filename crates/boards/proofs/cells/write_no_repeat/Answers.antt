@@ -3,7 +3,8 @@ use Rattle.places.proofs.Written.{writes-none, loop-more, loop-exit, loop-all}
 use mathlib.Core.Path.{ap}
 use Prim.Native.Nat.{_+_, _-_}
 use lib.ListN.{drop, getD, length, take}
-use Rattle.boards.proofs.Loops.{at-tails, length-tails, repeat-is, repeat-turn, rest-is, tails}
+use Rattle.formulas.proofs.Lists.{rest-is}
+use Rattle.boards.proofs.Loops.{at-tails, length-tails, repeat-is, repeat-turn, tails}
 use Rattle.boards.proofs.cells.write_no_repeat.Needs as need
 
 pub loop-index-holds : need.loop-index-holds

@@ -4,7 +4,8 @@ use Prim.Native.Nat.{_+_}
 use Rattle.std.specs.Iters.{counting}
 use Rattle.std.proofs.shelf.Counted.{length-counting}
 use Rattle.boards.specs.Board.{side}
-use Rattle.boards.proofs.Loops.{at-counting, not-same-is, same-turn}
+use Rattle.formulas.proofs.Lists.{at-counting}
+use Rattle.boards.proofs.Loops.{not-same-is, same-turn}
 use Rattle.boards.proofs.cells.write_not_same.Needs as need
 
 pub loop-index-holds : need.loop-index-holds

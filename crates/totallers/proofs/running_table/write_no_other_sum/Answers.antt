@@ -11,7 +11,8 @@ use Rattle.formulas.proofs.Numbered.{numbered-joined}
 use Rattle.places.proofs.Written.{loop-all, loop-exit, loop-more, writes-none}
 use Rattle.totals.specs.Running.{at}
 use Rattle.totallers.specs.Writing.{number}
-use Rattle.totallers.proofs.Sums.{at-counting, in-table, unit-as}
+use Rattle.formulas.proofs.Lists.{at-counting}
+use Rattle.totallers.proofs.Sums.{in-table, unit-as}
 use Rattle.totallers.proofs.running_table.write_no_other_sum.Needs as need
 
 pub loop-index-holds : need.loop-index-holds

@@ -1,13 +1,13 @@
 use native.Mathlib.Omega.{arith}
 use Rattle.std.specs.Iters.{counting}
-use Rattle.std.proofs.shelf.Counted.{getD-counting, length-counting}
+use Rattle.std.proofs.shelf.Counted.{length-counting}
 use Rattle.formulas.specs.Numbered.{numbered}
 use Rattle.formulas.proofs.Numbered.{numbered-joined}
 use Rattle.places.proofs.Written.{loop-all, loop-exit, loop-more, writes-none}
 use Rattle.totallers.specs.Writing.{number}
 use lib.ListN.{length}
 use Rattle.totals.specs.Running.{row}
-use Rattle.totallers.proofs.Sums.{at-counting}
+use Rattle.formulas.proofs.Lists.{at-counting}
 use Rattle.totallers.proofs.running_table.write_rows.Needs as need
 
 pub loop-index-holds : need.loop-index-holds

@@ -1,4 +1,4 @@
-use mathlib.Core.Path.{_≡_, subst}
+use mathlib.Core.Path.{subst}
 use mathlib.Core.List.{[], _∷_}
 use native.Mathlib.Omega.{arith}
 use lib.IntN.{negℤ, pos}
@@ -6,7 +6,8 @@ use Rattle.std.specs.Results.{errPart}
 use Rattle.std.proofs.shelf.Signed.{ints}
 use Rattle.places.specs.Written.{Writes}
 use Rattle.places.proofs.Written.{writes-exit, writes-put, writes-stops, writes-then}
-use Rattle.totallers.proofs.Sums.{same-three, usable-is, usable-not, valid-three}
+use Rattle.formulas.proofs.Valid.{usable-is, usable-not, valid-three}
+use Rattle.totallers.proofs.Sums.{same-three}
 use Rattle.totallers.proofs.running_table.write_same_unless.Needs as need
 
 pub returns-in-Break-put : need.returns-in-Break-put

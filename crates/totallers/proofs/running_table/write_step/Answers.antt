@@ -1,5 +1,5 @@
 use mathlib.Core.Path.{sym, subst}
-use mathlib.Core.List.{_++_, map}
+use mathlib.Core.List.{map}
 use Rattle.std.specs.Results.{errPart}
 use Rattle.std.proofs.shelf.Lists.{map-append}
 use Rattle.formulas.specs.Numbered.{numbered, signed}

@@ -14,7 +14,8 @@ use Rattle.formulas.specs.Numbered.{numbered}
 use Rattle.places.specs.Written.{Writes}
 use Rattle.places.proofs.Written.{writes-put}
 use Rattle.totallers.specs.Writing.{number}
-use Rattle.totallers.proofs.Sums.{both-as, in-table, same-two, usable-not, usable-not-as, valid-two}
+use Rattle.formulas.proofs.Valid.{usable-not, usable-not-as, valid-two}
+use Rattle.totallers.proofs.Sums.{both-as, in-table, same-two}
 use Rattle.totallers.proofs.running_table.write_with_item.Needs as need
 
 pub write-same-unless-requires : need.write-same-unless-requires

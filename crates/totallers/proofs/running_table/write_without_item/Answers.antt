@@ -4,7 +4,8 @@ use lib.ListN.{getD}
 use mir.Syntax.{w32}
 use mir.Val.{toZ}
 use Rattle.std.proofs.shelf.Signed.{ints}
-use Rattle.totallers.proofs.Sums.{in-table, usable-is-as}
+use Rattle.formulas.proofs.Valid.{usable-is-as}
+use Rattle.totallers.proofs.Sums.{in-table}
 use Rattle.totallers.proofs.running_table.write_without_item.Needs as need
 
 pub write-same-unless-requires : need.write-same-unless-requires

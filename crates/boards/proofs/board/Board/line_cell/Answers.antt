@@ -1,4 +1,3 @@
-use native.Mathlib.Omega.{arith}
 use Rattle.boards.proofs.Lines.{row-cell, column-cell, box-cell-at}
 use Rattle.boards.proofs.board.Board.line_cell.Needs as need
 

@@ -1,7 +1,5 @@
 use mathlib.Core.Path.{refl, sym, ap, _∙_}
-use mathlib.Core.Bool.{cond}
-use lib.Dec.{eqb}
-use Rattle.std.specs.declared.option.Option.the-variants.{Some, None}
+use Rattle.std.specs.declared.option.Option.the-variants.{Some}
 use Rattle.boards.specs.Board.{board-of, two-by-two, three-by-three}
 use Rattle.boards.proofs.Boards.{board-same}
 use Rattle.boards.proofs.board.Board.of_side.Needs as need

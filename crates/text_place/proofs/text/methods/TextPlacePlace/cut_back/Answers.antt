@@ -1,5 +1,4 @@
 use mathlib.Core.Path.{ap}
-use native.Mathlib.Omega.{arith}
 use denote.Ref.{now}
 use Rattle.spelling.proofs.Store.{back-none, back-some}
 use Rattle.spelling.proofs.Texts.{text}
