@@ -53,8 +53,8 @@ def respelled(name, types):
 
 def imported(text):
     """The names that a file takes from the toolchain: of its library, and of the goals that it makes."""
-    for module, names in re.findall(r"^(?:ghost )?use (Rattle\.[\w.]+)\.\{([^}]*)\}", text, re.M):
-        if module.startswith("Rattle.std.") or module.endswith((".Goals", ".Given")):
+    for module, names in re.findall(r"^(?:ghost )?use ([\w.]+)\.\{([^}]*)\}", text, re.M):
+        if not module.startswith("Rattle.") or module.startswith("Rattle.std.") or module.endswith((".Goals", ".Given")):
             yield from re.split(r"[,\s]+", re.sub(r" as \S+", "", names))
 
 

@@ -3,7 +3,7 @@ use Rattle.std.proofs.Common.{◌≡◌, ℕ, suc, ◌+◌, ◌-◌, ◌<◌, �
 use Rattle.std.specs.List.{flat_map}
 use Rattle.std.specs.Option.{option_or}
 use Rattle.std.specs.Result.{result_err}
-use lib.Seq.{take_append_add}
+use lib.Seq.{take-append-add}
 use Rattle.std.proofs.lemmas.List.{length-append, take_all, take-append-le, take_more}
 use Rattle.std.proofs.lemmas.List.Sums.{sum_by-append, sum_by-cons}
 use Rattle.std.proofs.lemmas.Bool.{and_parts, cases_Bool, cond-true, cond-false, le-leb, leb-true, lt-leb, leb-false}
@@ -102,7 +102,7 @@ module _ (charge : List ℤ → ℕ) where
       let n : fitting charge free (cs ++ ds) ≡ length cs + fitting charge free' ds =
       fitting_all free cs ds fits ∙ ap (λ k. length cs + fitting charge k ds) left in
       let t : take (fitting charge free (cs ++ ds)) (cs ++ ds) ≡ cs ++ take (fitting charge free' ds) ds =
-      ap (λ k. take k (cs ++ ds)) n ∙ take_append_add cs ds (fitting charge free' ds) in
+      ap (λ k. take k (cs ++ ds)) n ∙ take-append-add cs ds (fitting charge free' ds) in
       let s = sum_by-append charge cs ds in
       let test : leb (sum_by charge ds) free' ≡ leb (sum_by charge (cs ++ ds)) free = grind (arith, nat_tests) in
       let at : length held' + fitting charge free' ds ≡ length held + fitting charge free (cs ++ ds) =

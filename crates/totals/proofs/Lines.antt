@@ -1,6 +1,6 @@
 -- More lines than the weights need change nothing: they are empty.
 use Rattle.std.proofs.Common.{◌≡◌, ℕ, zero, suc, ◌+◌, ◌*◌, ◌%◌, ◌^◌, ◌<◌, ◌≤◌, true, false, eqb, List, [], ◌∷◌, ◌++◌, length, replicate, sym, refl, ap, ◌∙◌, subst, suc-add, zero-add, arith}
-use native.Mathlib.Nat.{div_eq_of_lt}
+use native.Mathlib.Nat.{div-eq_of_lt}
 use Rattle.std.proofs.lemmas.List.{length-append, nil_from_length, append-nil, append_assoc}
 use Rattle.std.proofs.lemmas.Nat.{pow_below}
 use Rattle.formulas.specs.Formula.{Formula}
@@ -57,7 +57,7 @@ lines_enough (suc m) j k ws cs n l =
 closing_none : (j k t : ℕ) → t < 2 ^ k → closing (item 0) k t (replicate j []) ≡ []
 closing_none zero k t l = refl
 closing_none (suc j) k t l =
-    let e = div_eq_of_lt l in
+    let e = div-eq_of_lt l in
     let no_bit : has_bit k t ≡ false = ap (λ q. eqb (q % 2) 1) e in
     let ih = closing_none j (k + 1) t (omega (arith, pow_below k (k + 1) (omega arith))) in
     ap (λ b. close (item 0) b [] ++ closing (item 0) (k + 1) t (replicate j [])) no_bit ∙ ih
