@@ -16,7 +16,7 @@ returns-in-err-bits g c =
     let t = c.args.target in
     let f = c.args.first in
     let p = c.args.place.now in
-    let q = c.write-lines.new.place in
+    let q = c.write_lines.new.place in
     let w = lines_from vs ws 0 f 0 in
     writes_exit g.P.Place _ p q _ c.from-residual.result c.from-residual.ensures.1
     (subst (λ cs. Writes g.P.Place cs p q (Some c.in-err-bits.field-0.0)) (sym (whole_is vs ws t f))
@@ -29,10 +29,10 @@ returns g c =
     let t = c.args.target in
     let f = c.args.first in
     let p = c.args.place.now in
-    let q = c.write-lines.new.place in
-    let r = c.write-closing.new.place in
+    let q = c.write_lines.new.place in
+    let r = c.write_closing.new.place in
     let w = lines_from vs ws 0 f 0 in
     let lined = c.in-ok-bits.ensures in
-    subst (λ cs. Writes g.P.Place cs p r (result_err c.write-closing.result)) (sym (whole_is vs ws t f))
-    (writes_then g.P.Place (wiring f w.adders) (plain (closing (get_or vs 0 0) 0 t (map listed (map bit_of w.bits)))) p q r (result_err c.write-closing.result) lined.0
-    (subst (λ bs. Writes g.P.Place (plain (closing (get_or vs 0 0) 0 t (map listed bs))) q r (result_err c.write-closing.result)) lined.1 c.write-closing.ensures))
+    subst (λ cs. Writes g.P.Place cs p r (result_err c.write_closing.result)) (sym (whole_is vs ws t f))
+    (writes_then g.P.Place (wiring f w.adders) (plain (closing (get_or vs 0 0) 0 t (map listed (map bit_of w.bits)))) p q r (result_err c.write_closing.result) lined.0
+    (subst (λ bs. Writes g.P.Place (plain (closing (get_or vs 0 0) 0 t (map listed bs))) q r (result_err c.write_closing.result)) lined.1 c.write_closing.ensures))

@@ -9,8 +9,8 @@ returns-in-err-len c =
     let no = c.in-err-len.ensures.fault ∙ never d.variables (length (held_text c.open.new.place)) d.few c.in-err-len.ensures.few (replicate 48 0) refl in
     absurd (grind arith)
 
-pub slice-bounds-extend-from-slice-end : goal.slice-bounds-extend-from-slice-end
-slice-bounds-extend-from-slice-end c =
+pub slice-bounds-extend_from_slice-end : goal.slice-bounds-extend_from_slice-end
+slice-bounds-extend_from_slice-end c =
     let d = c.in-ok-draft.draft in
     let n = length (held_text c.open.new.place) in
     let e = at_length d.variables n d.few c.in-ok-len.ensures.few (replicate 48 0) refl c.in-ok-len.len c.in-ok-len.ensures.value in
@@ -26,10 +26,10 @@ returns c =
     let opened = c.in-ok-draft.ensures.opened in
     let e = at_length d.variables n d.few c.in-ok-len.ensures.few (replicate 48 0) refl c.in-ok-len.len c.in-ok-len.ensures.value in
     let after = c.in-ok-len.ensures.after in
-    let one = c.in-ok-extend-from-slice.ensures.items in
-    let two = c.in-ok-extend-from-slice-2.ensures.items in (
+    let one = c.in-ok-extend_from_slice.ensures.items in
+    let two = c.in-ok-extend_from_slice-2.ensures.items in (
       b,
       opened.0,
-      whole b d.variables c.in-ok-len.len (held_text c.open.new.place) c.heading.new.buffer _ _ _ _ c.used-bytes.result.now
-          opened.1 opened.2 e after c.new-text.ensures.items one two c.used-bytes.ensures.value,
+      whole b d.variables c.in-ok-len.len (held_text c.open.new.place) c.heading.new.buffer _ _ _ _ c.used_bytes.result.now
+          opened.1 opened.2 e after c.new-text.ensures.items one two c.used_bytes.ensures.value,
     )

@@ -5,33 +5,33 @@ use Rattle.desk.proofs.read.read_line.Goals as goal
 
 pub returns-then-ne : goal.returns-then-ne
 returns-then-ne c =
-    unknown c.args.line.now c.without-comment.result.now c.in-Some.word.now c.in-Some.rest.now c.without-comment.ensures c.in-Some.ensures
+    unknown c.args.line.now c.without_comment.result.now c.in-Some.word.now c.in-Some.rest.now c.without_comment.ensures c.in-Some.ensures
     (ap not (sym c.if-ne.true) ∙ same_by c.in-Some.word.now (codes "side") c.ne.result c.ne.ensures)
 
-pub returns-in-default-next-word : goal.returns-in-default-next-word
-returns-in-default-next-word c =
-    no_number c.args.line.now c.without-comment.result.now c.in-Some.word.now c.in-Some.rest.now c.without-comment.ensures c.in-Some.ensures
-    (ap not (sym c.if-ne.false) ∙ same_by c.in-Some.word.now (codes "side") c.ne.result c.ne.ensures) c.in-default-next-word.ensures
+pub returns-in-default-next_word : goal.returns-in-default-next_word
+returns-in-default-next_word c =
+    no_number c.args.line.now c.without_comment.result.now c.in-Some.word.now c.in-Some.rest.now c.without_comment.ensures c.in-Some.ensures
+    (ap not (sym c.if-ne.false) ∙ same_by c.in-Some.word.now (codes "side") c.ne.result c.ne.ensures) c.in-default-next_word.ensures
 
-pub returns-then-is-some : goal.returns-then-is-some
-returns-then-is-some c =
-    too_many c.args.line.now c.without-comment.result.now c.in-Some.word.now c.in-Some.rest.now c.without-comment.ensures c.in-Some.ensures
+pub returns-then-is_some : goal.returns-then-is_some
+returns-then-is_some c =
+    too_many c.args.line.now c.without_comment.result.now c.in-Some.word.now c.in-Some.rest.now c.without_comment.ensures c.in-Some.ensures
     (ap not (sym c.if-ne.false) ∙ same_by c.in-Some.word.now (codes "side") c.ne.result c.ne.ensures)
-    c.in-Some-next-word.number.now c.in-Some-next-word.rest.now c.in-Some-next-word.ensures
-    c.next-word-3.result (sym c.is-some.ensures ∙ c.if-is-some.true) c.next-word-3.ensures
+    c.in-Some-next_word.number.now c.in-Some-next_word.rest.now c.in-Some-next_word.ensures
+    c.next_word-3.result (sym c.is_some.ensures ∙ c.if-is_some.true) c.next_word-3.ensures
 
-pub returns-in-Some-known-side : goal.returns-in-Some-known-side
-returns-in-Some-known-side c =
-    ap side_number c.in-Some-known-side.ensures ∙
-    one_number c.args.line.now c.without-comment.result.now c.in-Some.word.now c.in-Some.rest.now c.without-comment.ensures c.in-Some.ensures
+pub returns-in-Some-known_side : goal.returns-in-Some-known_side
+returns-in-Some-known_side c =
+    ap side_number c.in-Some-known_side.ensures ∙
+    one_number c.args.line.now c.without_comment.result.now c.in-Some.word.now c.in-Some.rest.now c.without_comment.ensures c.in-Some.ensures
     (ap not (sym c.if-ne.false) ∙ same_by c.in-Some.word.now (codes "side") c.ne.result c.ne.ensures)
-    c.in-Some-next-word.number.now c.in-Some-next-word.rest.now c.in-Some-next-word.ensures
-    c.next-word-3.result (sym c.is-some.ensures ∙ c.if-is-some.false) c.next-word-3.ensures
+    c.in-Some-next_word.number.now c.in-Some-next_word.rest.now c.in-Some-next_word.ensures
+    c.next_word-3.result (sym c.is_some.ensures ∙ c.if-is_some.false) c.next_word-3.ensures
 
 pub returns-in-None : goal.returns-in-None
 returns-in-None c =
     ap side_number c.in-None.ensures ∙
-    one_number c.args.line.now c.without-comment.result.now c.in-Some.word.now c.in-Some.rest.now c.without-comment.ensures c.in-Some.ensures
+    one_number c.args.line.now c.without_comment.result.now c.in-Some.word.now c.in-Some.rest.now c.without_comment.ensures c.in-Some.ensures
     (ap not (sym c.if-ne.false) ∙ same_by c.in-Some.word.now (codes "side") c.ne.result c.ne.ensures)
-    c.in-Some-next-word.number.now c.in-Some-next-word.rest.now c.in-Some-next-word.ensures
-    c.next-word-3.result (sym c.is-some.ensures ∙ c.if-is-some.false) c.next-word-3.ensures
+    c.in-Some-next_word.number.now c.in-Some-next_word.rest.now c.in-Some-next_word.ensures
+    c.next_word-3.result (sym c.is_some.ensures ∙ c.if-is_some.false) c.next_word-3.ensures

@@ -3,9 +3,9 @@ use Rattle.desk.proofs.words.next_word.Goals as goal
 
 pub returns-then-start-end : goal.returns-then-start-end
 returns-then-start-end c =
-    no_word c.args.bytes.now c.run-end-start.result c.run-end-end.result c.run-end-start.ensures.value c.run-end-end.ensures.value c.if-start-end.true
+    no_word c.args.bytes.now c.run_end-start.result c.run_end-end.result c.run_end-start.ensures.value c.run_end-end.ensures.value c.if-start-end.true
 
 pub returns : goal.returns
 returns c =
-    word_first c.args.bytes.now c.run-end-start.result c.run-end-end.result c.run-end-start.ensures.value c.run-end-end.ensures.value
-    c.if-start-end.false c.run-end-end.ensures.within
+    word_first c.args.bytes.now c.run_end-start.result c.run_end-end.result c.run_end-start.ensures.value c.run_end-end.ensures.value
+    c.if-start-end.false c.run_end-end.ensures.within

@@ -10,8 +10,8 @@ use Rattle.formulas.proofs.Valid.{usable_not, usable_not_as, valid_two}
 use Rattle.running_totals.proofs.Sums.{both_as, in_table, same_two}
 use Rattle.running_totals.proofs.table.write_with_item.Goals as goal
 
-pub write-same-unless-requires : goal.write-same-unless-requires
-write-same-unless-requires g c =
+pub write_same_unless-requires : goal.write_same_unless-requires
+write_same_unless-requires g c =
     let x = get_or c.args.variables.now c.args.index 0 in
     let h = c.requires.room.items c.args.index c.requires.item in
     let one = in_table c.args.variables.now c.args.table.target c.args.table.first c.requires.room (c.args.index + 1) c.args.sum (omega arith) (omega arith) in
@@ -25,13 +25,13 @@ write-same-unless-requires g c =
 pub returns-then-sum-weight : goal.returns-then-sum-weight
 returns-then-sum-weight g c =
     let p = c.args.place.now in
-    let q = c.write-same-unless.new.place in
+    let q = c.write_same_unless.new.place in
     let x = get_or c.args.variables.now c.args.index 0 in
     let h = c.requires.room.items c.args.index c.requires.item in
     let yes = le-leb c.args.weight c.args.sum c.if-sum-weight.true in
-    subst (λ f. Writes g.P.Place (numbered (number c.args.variables.now c.args.table.first) f) p q (result_err c.write-same-unless.result))
+    subst (λ f. Writes g.P.Place (numbered (number c.args.variables.now c.args.table.first) f) p q (result_err c.write_same_unless.result))
     (sym (cond-true (leb c.args.weight c.args.sum) _ _ yes))
-    (both_as g.P.Place _ (neg_ℤ (pos x)) _ _ _ _ p q _ (omega (arith, ints)) c.total-reached.ensures c.total.ensures c.write-same-unless.ensures)
+    (both_as g.P.Place _ (neg_ℤ (pos x)) _ _ _ _ p q _ (omega (arith, ints)) c.total-reached.ensures c.total.ensures c.write_same_unless.ensures)
 
 pub returns-else-sum-weight : goal.returns-else-sum-weight
 returns-else-sum-weight g c =

@@ -4,8 +4,8 @@ use Rattle.formulas.proofs.Valid.{usable_is_as}
 use Rattle.running_totals.proofs.Sums.{in_table}
 use Rattle.running_totals.proofs.table.write_without_item.Goals as goal
 
-pub write-same-unless-requires : goal.write-same-unless-requires
-write-same-unless-requires g c =
+pub write_same_unless-requires : goal.write_same_unless-requires
+write_same_unless-requires g c =
     let x = get_or c.args.variables.now c.args.index 0 in
     let h = c.requires.room.items c.args.index c.requires.item in
     let one = in_table c.args.variables.now c.args.table.target c.args.table.first c.requires.room (c.args.index + 1) c.args.sum (omega arith) (omega arith) in

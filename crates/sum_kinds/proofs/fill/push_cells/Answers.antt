@@ -8,8 +8,8 @@ use Rattle.sum_kinds.specs.Items.{variables_of, weights_of}
 use Rattle.sum_kinds.proofs.Filling.{items_more, longer_by, weights_more}
 use Rattle.sum_kinds.proofs.fill.push_cells.Goals as goal
 
-pub push-cell-requires : goal.push-cell-requires
-push-cell-requires c =
+pub push_cell-requires : goal.push_cell-requires
+push_cell-requires c =
     let n = side c.args.board.now in
     let i = c.loop-index.index in
     let m : (i + 1) * n ≤ length c.args.cells.now * n = mul-le-mul_right n (omega (arith, c.loop-index-test.true)) in
@@ -22,7 +22,7 @@ loop-index-preserved c =
     let i = c.loop-index.index in
     let inv = c.loop-index.invariant in
     let before = c.args.items.now in
-    let pushed = c.push-cell.ensures in
+    let pushed = c.push_cell.ensures in
     let l = c.loop-index-test.true in (
       pushed.0 ∙ longer_by (variables_of c.loop-index.items) (variables_of before) (map (number b 0) (cell_items b (take i cs))) (map (number b 0) (cell_items b (take (i + 1) cs)))
           (map (number b 0) (map (at (get_or cs i 0)) (range_with_len 1 (side b)))) inv.0 (items_more b cs i l),

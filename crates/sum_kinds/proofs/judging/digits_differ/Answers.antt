@@ -9,15 +9,15 @@ use Rattle.sum_kinds.proofs.judging.digits_differ.Goals as goal
 pub bounds-grid-cells : goal.bounds-grid-cells
 bounds-grid-cells c = All-get_or (λ k. k < length c.args.grid.now) c.args.cells.now c.loop-index.index 0 c.loop-index-test.true c.requires
 
-pub is-new-requires : goal.is-new-requires
-is-new-requires c =
+pub is_new-requires : goal.is_new-requires
+is_new-requires c =
     subst (All (λ k. k < length c.args.grid.now)) (sym (rest_is c.args.cells.now (c.loop-index.index + 1))) (All-drop (λ k. k < length c.args.grid.now) (c.loop-index.index + 1) c.args.cells.now c.requires)
 
-pub returns-then-not-is-new : goal.returns-then-not-is-new
-returns-then-not-is-new c = differ_exit c.args.grid.now c.args.cells.now c.loop-index.index c.loop-index.invariant c.loop-index-test.true c.is-new.result (c.is-new.ensures ∙ ap (λ l. every (λ q. not (eqb (get_or c.args.grid.now (get_or c.args.cells.now c.loop-index.index 0) 0) (get_or c.args.grid.now q 0))) l) (rest_is c.args.cells.now (c.loop-index.index + 1))) c.if-not-is-new.true
+pub returns-then-not-is_new : goal.returns-then-not-is_new
+returns-then-not-is_new c = differ_exit c.args.grid.now c.args.cells.now c.loop-index.index c.loop-index.invariant c.loop-index-test.true c.is_new.result (c.is_new.ensures ∙ ap (λ l. every (λ q. not (eqb (get_or c.args.grid.now (get_or c.args.cells.now c.loop-index.index 0) 0) (get_or c.args.grid.now q 0))) l) (rest_is c.args.cells.now (c.loop-index.index + 1))) c.if-not-is_new.true
 
 pub loop-index-preserved : goal.loop-index-preserved
-loop-index-preserved c = differ_more c.args.grid.now c.args.cells.now c.loop-index.index c.loop-index.invariant c.loop-index-test.true c.is-new.result (c.is-new.ensures ∙ ap (λ l. every (λ q. not (eqb (get_or c.args.grid.now (get_or c.args.cells.now c.loop-index.index 0) 0) (get_or c.args.grid.now q 0))) l) (rest_is c.args.cells.now (c.loop-index.index + 1))) c.if-not-is-new.false
+loop-index-preserved c = differ_more c.args.grid.now c.args.cells.now c.loop-index.index c.loop-index.invariant c.loop-index-test.true c.is_new.result (c.is_new.ensures ∙ ap (λ l. every (λ q. not (eqb (get_or c.args.grid.now (get_or c.args.cells.now c.loop-index.index 0) 0) (get_or c.args.grid.now q 0))) l) (rest_is c.args.cells.now (c.loop-index.index + 1))) c.if-not-is_new.false
 
 pub returns : goal.returns
 returns c = differ_all c.args.grid.now c.args.cells.now c.loop-index.index c.loop-index.invariant c.loop-index-test.false

@@ -9,12 +9,12 @@ returns c =
     let back = c.in-ok-variable.weight in
     let one = number_is 32 front.now c.parse.result c.in-ok-variable-2.variable c.parse.ensures.value.0 (sym c.ok.ensures.value ∙ c.in-ok-variable-2.ensures.ok-part) in
     let two = number_is 8 back.now c.parse-2.result c.in-ok-weight.weight c.parse-2.ensures.value.0 (sym c.ok-2.ensures.value ∙ c.in-ok-weight.ensures.ok-part) in
-    item_is c.args.word.now c.split-once.result front back c.split-once.ensures.cases c.in-ok-variable.ensures.ok-part _ _ one two
+    item_is c.args.word.now c.split_once.result front back c.split_once.ensures.cases c.in-ok-variable.ensures.ok-part _ _ one two
 
 pub returns-in-err-variable : goal.returns-in-err-variable
 returns-in-err-variable c =
-    no_item c.args.word c.from-residual.result c.in-err-variable.field-0.0 c.split-once.result c.from-residual.ensures.1
-    c.in-err-variable.ensures.value (no_parts c.args.word.now c.split-once.result c.split-once.ensures.cases)
+    no_item c.args.word c.from-residual.result c.in-err-variable.field-0.0 c.split_once.result c.from-residual.ensures.1
+    c.in-err-variable.ensures.value (no_parts c.args.word.now c.split_once.result c.split_once.ensures.cases)
 
 pub returns-in-err-variable-2 : goal.returns-in-err-variable-2
 returns-in-err-variable-2 c =
@@ -23,7 +23,7 @@ returns-in-err-variable-2 c =
     c.from-residual-in-err-variable-2.ensures.1 c.in-err-variable-2.ensures.value
     (λ none v k item.
     no_number 32 front.now c.parse.result c.parse.ensures.value.0 (sym c.ok.ensures.value ∙ none) v
-    (parts c.args.word.now c.split-once.result front c.in-ok-variable.weight c.split-once.ensures.cases
+    (parts c.args.word.now c.split_once.result front c.in-ok-variable.weight c.split_once.ensures.cases
     c.in-ok-variable.ensures.ok-part v k item).0)
 
 pub returns-in-err-weight : goal.returns-in-err-weight
@@ -33,5 +33,5 @@ returns-in-err-weight c =
     c.from-residual-in-err-weight.ensures.1 c.in-err-weight.ensures.value
     (λ none v k item.
     no_number 8 back.now c.parse-2.result c.parse-2.ensures.value.0 (sym c.ok-2.ensures.value ∙ none) k
-    (parts c.args.word.now c.split-once.result c.in-ok-variable.variable back c.split-once.ensures.cases
+    (parts c.args.word.now c.split_once.result c.in-ok-variable.variable back c.split_once.ensures.cases
     c.in-ok-variable.ensures.ok-part v k item).1)

@@ -1,6 +1,6 @@
 use Rattle.adder_network.proofs.Whole.{fitting_from}
 use Rattle.adder_network.proofs.network.AdderNetworkTotaller.write.Goals as goal
 
-pub write-network-requires : goal.write-network-requires
-write-network-requires g c =
+pub write_network-requires : goal.write_network-requires
+write_network-requires g c =
     fitting_from c.args.variables.now c.args.weights.now c.args.target c.args.first c.in-ok-fresh.ensures.0

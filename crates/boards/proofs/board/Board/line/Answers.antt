@@ -12,9 +12,9 @@ loop-index-preserved c =
     let n = length_line b c.args.number (omega arith) in
     let xs = c.loop-index.cells in
     let i = c.loop-index.index in (
-      length-set xs i c.line-cell.result ∙ c.loop-index.invariant.0,
-      take_more_set xs i c.line-cell.result (omega (arith, c.loop-index.invariant.0)) ∙
-          ap₂ (λ p x. p ++ x ∷ []) c.loop-index.invariant.1 c.line-cell.ensures ∙ sym (take_more l i 0 (omega arith)),
+      length-set xs i c.line_cell.result ∙ c.loop-index.invariant.0,
+      take_more_set xs i c.line_cell.result (omega (arith, c.loop-index.invariant.0)) ∙
+          ap₂ (λ p x. p ++ x ∷ []) c.loop-index.invariant.1 c.line_cell.ensures ∙ sym (take_more l i 0 (omega arith)),
     )
 
 pub returns : goal.returns

@@ -1,8 +1,8 @@
 use Rattle.std.proofs.Common.{rules}
 use Rattle.clone_pair.proofs.kind.ClonePairKind.write.Goals as goal
 
-pub returns-in-err-write-same : goal.returns-in-err-write-same
-returns-in-err-write-same g c = let w = c.in-err-write-same.ensures c.args.first in search rules
+pub returns-in-err-write_same : goal.returns-in-err-write_same
+returns-in-err-write_same g c = let w = c.in-err-write_same.ensures c.args.first in search rules
 
 pub returns : goal.returns
-returns g c = let w = c.in-ok-write-same.ensures c.args.first in search rules
+returns g c = let w = c.in-ok-write_same.ensures c.args.first in search rules

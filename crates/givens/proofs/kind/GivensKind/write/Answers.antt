@@ -7,8 +7,8 @@ use Rattle.meanings.proofs.Faults.{length_between}
 use Rattle.meanings.proofs.Givens.{characters_fit}
 use Rattle.givens.proofs.kind.GivensKind.write.Goals as goal
 
-pub write-digits-requires : goal.write-digits-requires
-write-digits-requires g c =
+pub write_digits-requires : goal.write_digits-requires
+write_digits-requires g c =
     let b = c.args.board.now in
     let body = c.args.body.now in
     let parts = both_none (length_fault (cells b) (cells b) body) _ (sym c.in-ok-test.ensures) in

@@ -7,12 +7,12 @@ use Rattle.meanings.proofs.Faults.{cells_on, length_between}
 use Rattle.kinds.proofs.Judging.{grid_good}
 use Rattle.sum_kinds.proofs.cage.CageKind.judge.Goals as goal
 
-pub digits-differ-requires : goal.digits-differ-requires
-digits-differ-requires c =
+pub digits_differ-requires : goal.digits_differ-requires
+digits_differ-requires c =
     let b = c.args.board.now in
     let body = c.args.body.now in
     let g = c.args.grid.now in
-    let G = grid_good b g (sym c.in-ok-check-grid.ensures) in
+    let G = grid_good b g (sym c.in-ok-check_grid.ensures) in
     let parts = both_none (length_fault 1 (side b) body) _ (sym c.in-ok-test.ensures) in
     let on = cells_on b body (both_none (cell_fault b body) _ parts.1).0 in
     let few = length_between 1 (side b) body parts.0 in
@@ -20,12 +20,12 @@ digits-differ-requires c =
     let in_grid = All-weaker (λ k. k < cells b) (λ k. k < length g) (λ k l. omega arith) body on in
     in_grid
 
-pub sum-digits-requires : goal.sum-digits-requires
-sum-digits-requires c =
+pub sum_digits-requires : goal.sum_digits-requires
+sum_digits-requires c =
     let b = c.args.board.now in
     let body = c.args.body.now in
     let g = c.args.grid.now in
-    let G = grid_good b g (sym c.in-ok-check-grid.ensures) in
+    let G = grid_good b g (sym c.in-ok-check_grid.ensures) in
     let parts = both_none (length_fault 1 (side b) body) _ (sym c.in-ok-test.ensures) in
     let on = cells_on b body (both_none (cell_fault b body) _ parts.1).0 in
     let few = length_between 1 (side b) body parts.0 in

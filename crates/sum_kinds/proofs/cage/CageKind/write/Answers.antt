@@ -9,15 +9,15 @@ use Rattle.sum_kinds.specs.Items.{variables_of, weights_of}
 use Rattle.sum_kinds.proofs.Parts.{cage_count, cage_few, cage_own, cage_ready, cage_sum, cage_whole}
 use Rattle.sum_kinds.proofs.cage.CageKind.write.Goals as goal
 
-pub push-cells-requires : goal.push-cells-requires
-push-cells-requires g c =
+pub push_cells-requires : goal.push_cells-requires
+push_cells-requires g c =
     let b = c.args.board.now in
     let body = c.args.body.now in
     omega (
       arith,
       c.none-items.ensures.1.1,
       cage_few g.T.Totaller.meaning g.P.Place b c.args.total body c.args.first (map (number b 0) (cell_items b body)) (cell_weights b body)
-          (sym c.in-ok-check-first.ensures) (sym c.in-ok-test.ensures) refl refl,
+          (sym c.in-ok-check_first.ensures) (sym c.in-ok-test.ensures) refl refl,
     )
 
 pub returns-in-err-ready : goal.returns-in-err-ready
@@ -29,9 +29,9 @@ returns-in-err-ready g c =
     let f = c.args.first in
     let p = c.args.place.now in
     let tested = sym c.in-ok-test.ensures in
-    let first = sym c.in-ok-check-first.ensures in
-    let filled_vs : variables_of c.push-cells.new.items ≡ map (number b 0) (cell_items b body) = c.push-cells.ensures.0 ∙ ap (λ l. l ++ map (number b 0) (cell_items b body)) c.none-items.ensures.0 in
-    let filled_ws : weights_of c.push-cells.new.items ≡ cell_weights b body = c.push-cells.ensures.1.0 ∙ ap (λ l. l ++ cell_weights b body) c.none-items.ensures.1.0 in
+    let first = sym c.in-ok-check_first.ensures in
+    let filled_vs : variables_of c.push_cells.new.items ≡ map (number b 0) (cell_items b body) = c.push_cells.ensures.0 ∙ ap (λ l. l ++ map (number b 0) (cell_items b body)) c.none-items.ensures.0 in
+    let filled_ws : weights_of c.push_cells.new.items ≡ cell_weights b body = c.push_cells.ensures.1.0 ∙ ap (λ l. l ++ cell_weights b body) c.none-items.ensures.1.0 in
     let vs = c.variables.result.now in
     let ws = c.weights.result.now in
     let ev : vs ≡ map (number b 0) (cell_items b body) = c.variables.ensures ∙ filled_vs in
@@ -40,8 +40,8 @@ returns-in-err-ready g c =
     let ready = cage_ready 𝓣 g.P.Place b total body f vs ws first tested ev ew in
     sum_refused cage 𝓣 g.P.Place b total body f (clauses_of b (no_repeat b body)) vs ws total whole ready p _ c.in-err-ready.ensures c.from-residual-in-err-ready.result c.from-residual-in-err-ready.ensures.1
 
-pub returns-in-err-write-no-repeat : goal.returns-in-err-write-no-repeat
-returns-in-err-write-no-repeat g c =
+pub returns-in-err-write_no_repeat : goal.returns-in-err-write_no_repeat
+returns-in-err-write_no_repeat g c =
     let 𝓣 = g.T.Totaller.meaning in
     let b = c.args.board.now in
     let total = c.args.total in
@@ -49,9 +49,9 @@ returns-in-err-write-no-repeat g c =
     let f = c.args.first in
     let p = c.args.place.now in
     let tested = sym c.in-ok-test.ensures in
-    let first = sym c.in-ok-check-first.ensures in
-    let filled_vs : variables_of c.push-cells.new.items ≡ map (number b 0) (cell_items b body) = c.push-cells.ensures.0 ∙ ap (λ l. l ++ map (number b 0) (cell_items b body)) c.none-items.ensures.0 in
-    let filled_ws : weights_of c.push-cells.new.items ≡ cell_weights b body = c.push-cells.ensures.1.0 ∙ ap (λ l. l ++ cell_weights b body) c.none-items.ensures.1.0 in
+    let first = sym c.in-ok-check_first.ensures in
+    let filled_vs : variables_of c.push_cells.new.items ≡ map (number b 0) (cell_items b body) = c.push_cells.ensures.0 ∙ ap (λ l. l ++ map (number b 0) (cell_items b body)) c.none-items.ensures.0 in
+    let filled_ws : weights_of c.push_cells.new.items ≡ cell_weights b body = c.push_cells.ensures.1.0 ∙ ap (λ l. l ++ cell_weights b body) c.none-items.ensures.1.0 in
     let vs = c.variables.result.now in
     let ws = c.weights.result.now in
     let ev : vs ≡ map (number b 0) (cell_items b body) = c.variables.ensures ∙ filled_vs in
@@ -60,7 +60,7 @@ returns-in-err-write-no-repeat g c =
     let ready = cage_ready 𝓣 g.P.Place b total body f vs ws first tested ev ew in
     let none : ready_fault 𝓣 vs ws total f ≡ None = c.in-ok-ready.ensures.0 in
     own_stopped cage 𝓣 g.P.Place b total body f (clauses_of b (no_repeat b body)) vs ws total whole ready p none (cage_own 𝓣 g.P.Place b total body f vs ws first tested ev ew)
-    c.write-no-repeat.new.place _ c.in-err-write-no-repeat.ensures c.from-residual-in-err-write-no-repeat.result c.from-residual-in-err-write-no-repeat.ensures.1
+    c.write_no_repeat.new.place _ c.in-err-write_no_repeat.ensures c.from-residual-in-err-write_no_repeat.result c.from-residual-in-err-write_no_repeat.ensures.1
 
 pub returns-in-err-fresh : goal.returns-in-err-fresh
 returns-in-err-fresh g c =
@@ -71,9 +71,9 @@ returns-in-err-fresh g c =
     let f = c.args.first in
     let p = c.args.place.now in
     let tested = sym c.in-ok-test.ensures in
-    let first = sym c.in-ok-check-first.ensures in
-    let filled_vs : variables_of c.push-cells.new.items ≡ map (number b 0) (cell_items b body) = c.push-cells.ensures.0 ∙ ap (λ l. l ++ map (number b 0) (cell_items b body)) c.none-items.ensures.0 in
-    let filled_ws : weights_of c.push-cells.new.items ≡ cell_weights b body = c.push-cells.ensures.1.0 ∙ ap (λ l. l ++ cell_weights b body) c.none-items.ensures.1.0 in
+    let first = sym c.in-ok-check_first.ensures in
+    let filled_vs : variables_of c.push_cells.new.items ≡ map (number b 0) (cell_items b body) = c.push_cells.ensures.0 ∙ ap (λ l. l ++ map (number b 0) (cell_items b body)) c.none-items.ensures.0 in
+    let filled_ws : weights_of c.push_cells.new.items ≡ cell_weights b body = c.push_cells.ensures.1.0 ∙ ap (λ l. l ++ cell_weights b body) c.none-items.ensures.1.0 in
     let vs = c.variables-2.result.now in
     let ws = c.weights-2.result.now in
     let ev : vs ≡ map (number b 0) (cell_items b body) = c.variables-2.ensures ∙ filled_vs in
@@ -81,7 +81,7 @@ returns-in-err-fresh g c =
     let whole = cage_whole 𝓣 g.P.Place b total body f vs ws first tested ev ew in
     let ready = cage_ready 𝓣 g.P.Place b total body f vs ws first tested ev ew in
     let none : ready_fault 𝓣 vs ws total f ≡ None = ap₂ (λ v w. ready_fault 𝓣 v w total f) (ev ∙ sym (c.variables.ensures ∙ filled_vs)) (ew ∙ sym (c.weights.ensures ∙ filled_ws)) ∙ c.in-ok-ready.ensures.0 in
-    sum_stopped cage 𝓣 g.P.Place b total body f (clauses_of b (no_repeat b body)) vs ws total whole ready p none c.write-no-repeat.new.place c.in-ok-write-no-repeat.ensures c.write.new.place
+    sum_stopped cage 𝓣 g.P.Place b total body f (clauses_of b (no_repeat b body)) vs ws total whole ready p none c.write_no_repeat.new.place c.in-ok-write_no_repeat.ensures c.write.new.place
     (cage_sum 𝓣 g.P.Place b total body f vs ws first tested ev ew) _ c.in-err-fresh.ensures c.from-residual-in-err-fresh.result c.from-residual-in-err-fresh.ensures.1
 
 pub returns : goal.returns
@@ -93,9 +93,9 @@ returns g c =
     let f = c.args.first in
     let p = c.args.place.now in
     let tested = sym c.in-ok-test.ensures in
-    let first = sym c.in-ok-check-first.ensures in
-    let filled_vs : variables_of c.push-cells.new.items ≡ map (number b 0) (cell_items b body) = c.push-cells.ensures.0 ∙ ap (λ l. l ++ map (number b 0) (cell_items b body)) c.none-items.ensures.0 in
-    let filled_ws : weights_of c.push-cells.new.items ≡ cell_weights b body = c.push-cells.ensures.1.0 ∙ ap (λ l. l ++ cell_weights b body) c.none-items.ensures.1.0 in
+    let first = sym c.in-ok-check_first.ensures in
+    let filled_vs : variables_of c.push_cells.new.items ≡ map (number b 0) (cell_items b body) = c.push_cells.ensures.0 ∙ ap (λ l. l ++ map (number b 0) (cell_items b body)) c.none-items.ensures.0 in
+    let filled_ws : weights_of c.push_cells.new.items ≡ cell_weights b body = c.push_cells.ensures.1.0 ∙ ap (λ l. l ++ cell_weights b body) c.none-items.ensures.1.0 in
     let vs = c.variables-2.result.now in
     let ws = c.weights-2.result.now in
     let ev : vs ≡ map (number b 0) (cell_items b body) = c.variables-2.ensures ∙ filled_vs in
@@ -103,5 +103,5 @@ returns g c =
     let whole = cage_whole 𝓣 g.P.Place b total body f vs ws first tested ev ew in
     let ready = cage_ready 𝓣 g.P.Place b total body f vs ws first tested ev ew in
     let none : ready_fault 𝓣 vs ws total f ≡ None = ap₂ (λ v w. ready_fault 𝓣 v w total f) (ev ∙ sym (c.variables.ensures ∙ filled_vs)) (ew ∙ sym (c.weights.ensures ∙ filled_ws)) ∙ c.in-ok-ready.ensures.0 in
-    sum_done cage 𝓣 g.P.Place b total body f (clauses_of b (no_repeat b body)) vs ws total whole ready p none c.write-no-repeat.new.place c.in-ok-write-no-repeat.ensures c.write.new.place
+    sum_done cage 𝓣 g.P.Place b total body f (clauses_of b (no_repeat b body)) vs ws total whole ready p none c.write_no_repeat.new.place c.in-ok-write_no_repeat.ensures c.write.new.place
     (cage_count 𝓣 g.P.Place b total body f vs ws first tested ev ew) c.in-ok-fresh.fresh c.in-ok-fresh.ensures

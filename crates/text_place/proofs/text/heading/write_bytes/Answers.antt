@@ -8,6 +8,6 @@ returns c =
     let n = c.args.at + length c.args.part.now - c.args.at in
     record {
       end = refl;
-      after = ap (put_mid c.args.at n c.args.bytes.now) c.copy-from-slice.ensures.after ∙
+      after = ap (put_mid c.args.at n c.args.bytes.now) c.copy_from_slice.ensures.after ∙
           overwritten_mid c.args.at n c.args.bytes.now c.args.part.now (omega arith);
     }

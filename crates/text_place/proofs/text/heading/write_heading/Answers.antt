@@ -27,16 +27,16 @@ returns c =
     let s1 = length-append a (decimal v) in
     let s2 = length-append (a ++ decimal v) (codes " ") in
     let s3 = length-append (a ++ decimal v ++ codes " ") (decimal k) in
-    let o1 = over_first xs a c.write-bytes-end.result c.write-bytes-end.new.bytes c.write-bytes-end.ensures.end c.write-bytes-end.ensures.after in
-    let o2 = over_more xs a (decimal v) c.write-bytes-end.result c.write-number-end.result c.write-bytes-end.new.bytes c.write-number-end.new.bytes
-    o1 (omega (arith, e)) (c.write-number-end.ensures.end ∙ ap (λ d. c.write-bytes-end.result + length (decimal d)) c.from-variables.ensures)
-    (c.write-number-end.ensures.after ∙ ap (λ d. overwritten c.write-bytes-end.new.bytes c.write-bytes-end.result (decimal d)) c.from-variables.ensures) in
-    let o3 = over_more xs (a ++ decimal v) (codes " ") c.write-number-end.result c.write-bytes-end-2.result c.write-number-end.new.bytes c.write-bytes-end-2.new.bytes
-    o2 (omega arith) c.write-bytes-end-2.ensures.end c.write-bytes-end-2.ensures.after in
-    let o4 = over_more xs (a ++ decimal v ++ codes " ") (decimal k) c.write-bytes-end-2.result c.write-number-end-2.result c.write-bytes-end-2.new.bytes c.write-number-end-2.new.bytes
-    o3 (omega arith) c.write-number-end-2.ensures.end c.write-number-end-2.ensures.after in
-    let o5 = over_more xs (a ++ decimal v ++ codes " " ++ decimal k) (codes "\n") c.write-number-end-2.result c.write-bytes-end-3.result c.write-number-end-2.new.bytes c.write-bytes-end-3.new.bytes
-    o4 (omega arith) c.write-bytes-end-3.ensures.end c.write-bytes-end-3.ensures.after in
+    let o1 = over_first xs a c.write_bytes-end.result c.write_bytes-end.new.bytes c.write_bytes-end.ensures.end c.write_bytes-end.ensures.after in
+    let o2 = over_more xs a (decimal v) c.write_bytes-end.result c.write_number-end.result c.write_bytes-end.new.bytes c.write_number-end.new.bytes
+    o1 (omega (arith, e)) (c.write_number-end.ensures.end ∙ ap (λ d. c.write_bytes-end.result + length (decimal d)) c.from-variables.ensures)
+    (c.write_number-end.ensures.after ∙ ap (λ d. overwritten c.write_bytes-end.new.bytes c.write_bytes-end.result (decimal d)) c.from-variables.ensures) in
+    let o3 = over_more xs (a ++ decimal v) (codes " ") c.write_number-end.result c.write_bytes-end-2.result c.write_number-end.new.bytes c.write_bytes-end-2.new.bytes
+    o2 (omega arith) c.write_bytes-end-2.ensures.end c.write_bytes-end-2.ensures.after in
+    let o4 = over_more xs (a ++ decimal v ++ codes " ") (decimal k) c.write_bytes-end-2.result c.write_number-end-2.result c.write_bytes-end-2.new.bytes c.write_number-end-2.new.bytes
+    o3 (omega arith) c.write_number-end-2.ensures.end c.write_number-end-2.ensures.after in
+    let o5 = over_more xs (a ++ decimal v ++ codes " " ++ decimal k) (codes "\n") c.write_number-end-2.result c.write_bytes-end-3.result c.write_number-end-2.new.bytes c.write_bytes-end-3.new.bytes
+    o4 (omega arith) c.write_bytes-end-3.ensures.end c.write_bytes-end-3.ensures.after in
     record {
       value = ap Some o5.0 ∙ sym (cond-true _ (Some (length (heading v k))) None (le-leb (length (heading v k)) (length xs) (omega arith)));
       after = o5.1 ∙ over_start xs (heading v k);

@@ -11,7 +11,7 @@ loop-literal-preserved c =
     let i = c.loop-literal.literal-index in
     let l = get_or clause i (pos 0) in
     let f : SFits w32 l = search rules in
-    let h = simp to_z-of_z at c.literal-len.ensures in
+    let h = simp to_z-of_z at c.literal_len.ensures in
     let more = length_spaced_more clause i c.loop-literal-test.true in
     (omega arith, omega arith)
 

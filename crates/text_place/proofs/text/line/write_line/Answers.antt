@@ -7,8 +7,8 @@ use Rattle.text_place.proofs.text.line.write_line.Goals as goal
 pub loop-literal-init : goal.loop-literal-init
 loop-literal-init c = upto_none c.args.bytes.now c.args.at c.args.clause.now c.requires.room
 
-pub write-literal-end-requires : goal.write-literal-end-requires
-write-literal-end-requires c =
+pub write_literal-end-requires : goal.write_literal-end-requires
+write_literal-end-requires c =
     let f : SFits w32 (get_or c.args.clause.now c.loop-literal.literal-index (pos 0)) = search rules in
     let r = upto_room c.args.bytes.now c.args.at c.args.clause.now c.requires.room
     c.loop-literal.literal-index c.loop-literal.end c.loop-literal.bytes c.loop-literal.invariant c.loop-literal-test.true in
@@ -19,15 +19,15 @@ bounds-bytes-end c =
     let f : SFits w32 (get_or c.args.clause.now c.loop-literal.literal-index (pos 0)) = search rules in
     let r = upto_room c.args.bytes.now c.args.at c.args.clause.now c.requires.room
     c.loop-literal.literal-index c.loop-literal.end c.loop-literal.bytes c.loop-literal.invariant c.loop-literal-test.true in
-    let e = simp to_z-of_z at c.write-literal-end.ensures.end in
-    omega (arith, c.write-literal-end.auto.bytes)
+    let e = simp to_z-of_z at c.write_literal-end.ensures.end in
+    omega (arith, c.write_literal-end.auto.bytes)
 
 pub overflow-add-end : goal.overflow-add-end
 overflow-add-end c =
     let f : SFits w32 (get_or c.args.clause.now c.loop-literal.literal-index (pos 0)) = search rules in
     let r = upto_room c.args.bytes.now c.args.at c.args.clause.now c.requires.room
     c.loop-literal.literal-index c.loop-literal.end c.loop-literal.bytes c.loop-literal.invariant c.loop-literal-test.true in
-    let e = simp to_z-of_z at c.write-literal-end.ensures.end in
+    let e = simp to_z-of_z at c.write_literal-end.ensures.end in
     search rules
 
 pub loop-literal-preserved : goal.loop-literal-preserved
@@ -35,8 +35,8 @@ loop-literal-preserved c =
     let f : SFits w32 (get_or c.args.clause.now c.loop-literal.literal-index (pos 0)) = search rules in
     upto_more c.args.bytes.now c.args.at c.args.clause.now c.requires.room
     c.loop-literal.literal-index c.loop-literal.end c.loop-literal.bytes c.loop-literal.invariant c.loop-literal-test.true
-    c.write-literal-end.result c.write-literal-end.new.bytes
-    (simp to_z-of_z at c.write-literal-end.ensures.end) (simp to_z-of_z at c.write-literal-end.ensures.after)
+    c.write_literal-end.result c.write_literal-end.new.bytes
+    (simp to_z-of_z at c.write_literal-end.ensures.end) (simp to_z-of_z at c.write_literal-end.ensures.after)
 
 pub bounds-bytes-end-2 : goal.bounds-bytes-end-2
 bounds-bytes-end-2 c =

@@ -13,11 +13,11 @@ returns-then-literal-lt0 c =
     let digits = decimal c.from-variable.result in
     let f : SFits w32 l = c.ranges.literal in
     let d : signed_decimal l ≡ 45 ∷ digits =
-    signed_below l (simp to_z-of_z at c.if-literal-lt0.true) ∙ ap (λ n. 45 ∷ decimal n) (sym (c.from-variable.ensures ∙ simp to_z-of_z at c.unsigned-abs.ensures.value)) in
+    signed_below l (simp to_z-of_z at c.if-literal-lt0.true) ∙ ap (λ n. 45 ∷ decimal n) (sym (c.from-variable.ensures ∙ simp to_z-of_z at c.unsigned_abs.ensures.value)) in
     let e = ap length d in
     record {
-      end = omega (arith, c.write-number.ensures.end);
+      end = omega (arith, c.write_number.ensures.end);
       after =
-          c.write-number.ensures.after ∙ ap (λ r. overwritten r (c.args.at + 1) digits) (set_overwritten bytes c.args.at 45 (omega arith)) ∙
+          c.write_number.ensures.after ∙ ap (λ r. overwritten r (c.args.at + 1) digits) (set_overwritten bytes c.args.at 45 (omega arith)) ∙
           overwritten_twice bytes c.args.at (45 ∷ []) digits (omega arith) ∙ ap (overwritten bytes c.args.at) (sym d);
     }

@@ -17,8 +17,8 @@ returns-then-n-lt10 t c =
       after = set_overwritten c.args.bytes.now c.args.at (48 + c.args.n) (omega arith) ∙ ap (overwritten c.args.bytes.now c.args.at) (sym d);
     }
 
-pub write-number-last-requires : goal.write-number-last-requires
-write-number-last-requires t c =
+pub write_number-last-requires : goal.write_number-last-requires
+write_number-last-requires t c =
     let n = c.args.n in
     let f = c.ranges.n.fits in
     let l = ap length (decimal_step n c.if-n-lt10.false (omega arith)) in
@@ -31,7 +31,7 @@ bounds-bytes-last t c =
     let f = c.ranges.n.fits in
     let l = ap length (decimal_step n c.if-n-lt10.false (omega arith)) in
     let p = length_push (decimal (n / 10)) (48 + n % 10) in
-    omega (arith, c.write-number-last.ensures.end, c.write-number-last.auto.bytes)
+    omega (arith, c.write_number-last.ensures.end, c.write_number-last.auto.bytes)
 
 pub overflow-add-result-2 : goal.overflow-add-result-2
 overflow-add-result-2 t c =
@@ -39,7 +39,7 @@ overflow-add-result-2 t c =
     let f = c.ranges.n.fits in
     let l = ap length (decimal_step n c.if-n-lt10.false (omega arith)) in
     let p = length_push (decimal (n / 10)) (48 + n % 10) in
-    let e = c.write-number-last.ensures.end in
+    let e = c.write_number-last.ensures.end in
     search rules
 
 pub returns : goal.returns
@@ -49,11 +49,11 @@ returns t c =
     let d = decimal_step n c.if-n-lt10.false (omega arith) in
     let l = ap length d in
     let p = length_push (decimal (n / 10)) (48 + n % 10) in
-    let e = c.write-number-last.ensures.end in
+    let e = c.write_number-last.ensures.end in
     record {
       end = omega arith;
       after =
-          ap (λ bs. set bs c.write-number-last.result (48 + n % 10)) c.write-number-last.ensures.after ∙
-          overwritten_push c.args.bytes.now c.args.at (decimal (n / 10)) (48 + n % 10) c.write-number-last.result e (omega arith) ∙
+          ap (λ bs. set bs c.write_number-last.result (48 + n % 10)) c.write_number-last.ensures.after ∙
+          overwritten_push c.args.bytes.now c.args.at (decimal (n / 10)) (48 + n % 10) c.write_number-last.result e (omega arith) ∙
           ap (overwritten c.args.bytes.now c.args.at) (sym d);
     }

@@ -10,13 +10,13 @@ returns-then-m-self c = let p = c.args.self.now in back_none text p.bytes.now p.
 pub invariant-of-self : goal.invariant-of-self
 invariant-of-self c =
     let p = c.args.self.now in
-    (back_some text p.bytes.now p.used p.count (kept_text p) c.args.m c.last-lines-start.result c.replace-bytes.result.now c.fill.new.self
-    c.if-m-self.false (ap (λ x. x.now) c.replace-bytes.ensures.value) c.last-lines-start.ensures.most c.last-lines-start.ensures.least
+    (back_some text p.bytes.now p.used p.count (kept_text p) c.args.m c.last_lines-start.result c.replace-bytes.result.now c.fill.new.self
+    c.if-m-self.false (ap (λ x. x.now) c.replace-bytes.ensures.value) c.last_lines-start.ensures.most c.last_lines-start.ensures.least
     (c.fill.ensures.after (λ y e. e))).0
 
 pub returns : goal.returns
 returns c =
     let p = c.args.self.now in
-    (back_some text p.bytes.now p.used p.count (kept_text p) c.args.m c.last-lines-start.result c.replace-bytes.result.now c.fill.new.self
-    c.if-m-self.false (ap (λ x. x.now) c.replace-bytes.ensures.value) c.last-lines-start.ensures.most c.last-lines-start.ensures.least
+    (back_some text p.bytes.now p.used p.count (kept_text p) c.args.m c.last_lines-start.result c.replace-bytes.result.now c.fill.new.self
+    c.if-m-self.false (ap (λ x. x.now) c.replace-bytes.ensures.value) c.last_lines-start.ensures.most c.last_lines-start.ensures.least
     (c.fill.ensures.after (λ y e. e))).1

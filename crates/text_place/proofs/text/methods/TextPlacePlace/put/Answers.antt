@@ -14,19 +14,19 @@ pub invariant-of-self : goal.invariant-of-self
 invariant-of-self c =
     let p = c.args.self.now in
     let clause = c.args.clause.now in
-    let done = put text p.bytes.now p.used p.count (kept_text p) clause c.line-len-charge.result c.write-line.new.bytes
-    (valid_from clause c.in-ok-check-clause.ensures) c.line-len-charge.ensures (omega arith)
-    (c.write-line.ensures ∙ ap (λ r. overwritten r.now p.used (text_line clause)) c.replace-bytes.ensures.value) in
+    let done = put text p.bytes.now p.used p.count (kept_text p) clause c.line_len-charge.result c.write_line.new.bytes
+    (valid_from clause c.in-ok-check_clause.ensures) c.line_len-charge.ensures (omega arith)
+    (c.write_line.ensures ∙ ap (λ r. overwritten r.now p.used (text_line clause)) c.replace-bytes.ensures.value) in
     ghosts text _ _ _ done.0
 
 pub returns : goal.returns
 returns c =
     let p = c.args.self.now in
     let clause = c.args.clause.now in
-    let none = c.in-ok-check-clause.ensures in
+    let none = c.in-ok-check_clause.ensures in
     let ok = valid_from clause none in
-    let done = put text p.bytes.now p.used p.count (kept_text p) clause c.line-len-charge.result c.write-line.new.bytes
-    ok c.line-len-charge.ensures (omega arith)
-    (c.write-line.ensures ∙ ap (λ r. overwritten r.now p.used (text_line clause)) c.replace-bytes.ensures.value) in
+    let done = put text p.bytes.now p.used p.count (kept_text p) clause c.line_len-charge.result c.write_line.new.bytes
+    ok c.line_len-charge.ensures (omega arith)
+    (c.write_line.ensures ∙ ap (λ r. overwritten r.now p.used (text_line clause)) c.replace-bytes.ensures.value) in
     let fault = no_put_fault text_charge clause _ _ none (omega arith) in
-    record { fault = fault; refusal = reported text_charge clause _ _ _ fault; holds = done.1; room = omega (arith, done.2, c.line-len-charge.ensures) }
+    record { fault = fault; refusal = reported text_charge clause _ _ _ fault; holds = done.1; room = omega (arith, done.2, c.line_len-charge.ensures) }

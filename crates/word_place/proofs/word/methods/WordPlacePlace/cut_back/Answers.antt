@@ -10,13 +10,13 @@ returns-then-m-self c = let p = c.args.self.now in back_none words p.words.now p
 pub invariant-of-self : goal.invariant-of-self
 invariant-of-self c =
     let p = c.args.self.now in
-    (back_some words p.words.now p.used p.count (kept_words p) c.args.m c.last-lines-start.result c.replace-words.result.now c.fill.new.self
-    c.if-m-self.false (ap (λ x. x.now) c.replace-words.ensures.value) c.last-lines-start.ensures.most c.last-lines-start.ensures.least
+    (back_some words p.words.now p.used p.count (kept_words p) c.args.m c.last_lines-start.result c.replace-words.result.now c.fill.new.self
+    c.if-m-self.false (ap (λ x. x.now) c.replace-words.ensures.value) c.last_lines-start.ensures.most c.last_lines-start.ensures.least
     (c.fill.ensures.after (λ y e. e))).0
 
 pub returns : goal.returns
 returns c =
     let p = c.args.self.now in
-    (back_some words p.words.now p.used p.count (kept_words p) c.args.m c.last-lines-start.result c.replace-words.result.now c.fill.new.self
-    c.if-m-self.false (ap (λ x. x.now) c.replace-words.ensures.value) c.last-lines-start.ensures.most c.last-lines-start.ensures.least
+    (back_some words p.words.now p.used p.count (kept_words p) c.args.m c.last_lines-start.result c.replace-words.result.now c.fill.new.self
+    c.if-m-self.false (ap (λ x. x.now) c.replace-words.ensures.value) c.last_lines-start.ensures.most c.last_lines-start.ensures.least
     (c.fill.ensures.after (λ y e. e))).1

@@ -14,9 +14,9 @@ invariant-of-self c =
     let p = c.args.self.now in
     let clause = c.args.clause.now in
     let n = p.used + length clause - p.used in
-    let done = words_put p.words.now p.used p.count (kept_words p) clause n c.replace-words.result.now c.copy-from-slice.new.self
-    (valid_from clause c.in-ok-check-clause.ensures) (omega arith) (omega arith)
-    (ap (λ x. x.now) c.replace-words.ensures.value) c.copy-from-slice.ensures.after in
+    let done = words_put p.words.now p.used p.count (kept_words p) clause n c.replace-words.result.now c.copy_from_slice.new.self
+    (valid_from clause c.in-ok-check_clause.ensures) (omega arith) (omega arith)
+    (ap (λ x. x.now) c.replace-words.ensures.value) c.copy_from_slice.ensures.after in
     ghosts words _ _ _ done.0
 
 pub returns : goal.returns
@@ -24,9 +24,9 @@ returns c =
     let p = c.args.self.now in
     let clause = c.args.clause.now in
     let n = p.used + length clause - p.used in
-    let none = c.in-ok-check-clause.ensures in
+    let none = c.in-ok-check_clause.ensures in
     let ok = valid_from clause none in
-    let done = words_put p.words.now p.used p.count (kept_words p) clause n c.replace-words.result.now c.copy-from-slice.new.self
-    ok (omega arith) (omega arith) (ap (λ x. x.now) c.replace-words.ensures.value) c.copy-from-slice.ensures.after in
+    let done = words_put p.words.now p.used p.count (kept_words p) clause n c.replace-words.result.now c.copy_from_slice.new.self
+    ok (omega arith) (omega arith) (ap (λ x. x.now) c.replace-words.ensures.value) c.copy_from_slice.ensures.after in
     let fault = no_put_fault word_charge clause _ _ none (omega arith) in
     record { fault = fault; refusal = reported word_charge clause _ _ _ fault; holds = done.1; room = omega (arith, done.2) }
