@@ -2,13 +2,21 @@
 use adder_network::AdderNetwork;
 use std::alloc::Global;
 use std::io::Write;
+use std::process::ExitCode;
 use sum_text::{Method, Sum, WriteFault, write_sum};
 
 // The program ends with status 1; what is wrong has been said.
 #[derive(Drop)]
 struct Stopped;
 
-fn main(rt: HostRuntime) -> Result<(), Stopped> {
+fn main(rt: HostRuntime) -> ExitCode {
+    match work(&rt) {
+        Ok(()) => ExitCode::SUCCESS,
+        Err(Stopped) => ExitCode::FAILURE,
+    }
+}
+
+fn work(rt: &HostRuntime) -> Result<(), Stopped> {
     let Ok(clauses) = one_of_two(rt.alloc()) else {
         let _ = eprintln!(rt; "adder: not enough memory");
         return Err(Stopped);

@@ -57,7 +57,7 @@ fn read_line(line: &[u8]) -> Statement
     let Some((word, rest)) = next_word(without_comment(line)) else {
         return Statement::Nothing;
     };
-    if word != b"side" {
+    if word != b"side".as_slice() {
         return Statement::Wrong(Reason::UnknownStatement);
     }
     let Some((number, rest)) = next_word(rest) else {

@@ -3,6 +3,7 @@ use desk::{EncodeFault, Reason, encode, statement_word};
 use draft::DraftFault;
 use std::alloc::{AllocError, Global};
 use std::io::{Read, Write};
+use std::process::ExitCode;
 use std::{env, fs, io};
 
 const HELP: &str = "dulovamish: writes a draft of a Sudoku puzzle as a clause text for SAT solvers
@@ -23,10 +24,17 @@ What is wrong is said on standard error, and the exit status is then 1.";
 #[derive(Drop)]
 struct Stopped;
 
-fn main(rt: HostRuntime) -> Result<(), Stopped> {
-    match words(&rt) {
-        Ok(words) => run(&rt, words.as_slice()),
-        Err(_) => stop(&rt, "the arguments cannot be read"),
+fn main(rt: HostRuntime) -> ExitCode {
+    match work(&rt) {
+        Ok(()) => ExitCode::SUCCESS,
+        Err(Stopped) => ExitCode::FAILURE,
+    }
+}
+
+fn work(rt: &HostRuntime) -> Result<(), Stopped> {
+    match words(rt) {
+        Ok(words) => run(rt, words.as_slice()),
+        Err(_) => stop(rt, "the arguments cannot be read"),
     }
 }
 

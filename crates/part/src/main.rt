@@ -6,6 +6,7 @@ use places::Refusal;
 use running_totals::RunningTotals;
 use std::alloc::{AllocError, Global};
 use std::io::{Read, Write};
+use std::process::ExitCode;
 use sum_kinds::{Arrow, Cage};
 use sum_text::Method;
 use thermometer::Thermometer;
@@ -16,18 +17,25 @@ use totallers::Totaller;
 struct Stopped;
 
 // Reads a part from standard input, and writes its clauses to standard output.
-fn main(rt: HostRuntime) -> Result<(), Stopped> {
+fn main(rt: HostRuntime) -> ExitCode {
+    match work(&rt) {
+        Ok(()) => ExitCode::SUCCESS,
+        Err(Stopped) => ExitCode::FAILURE,
+    }
+}
+
+fn work(rt: &HostRuntime) -> Result<(), Stopped> {
     let mut text = String::new(rt.alloc());
     if let Err(error) = rt.stdin().read_to_string(&mut text) {
         let _ = eprintln!(rt; "part: standard input: {error}");
         return Err(Stopped);
     }
     let Ok(words) = words_of(rt.alloc(), text.as_str()) else {
-        return no_memory(&rt);
+        return no_memory(rt);
     };
     match read_part(rt.alloc(), words.as_slice()) {
-        Ok(part) => encode(&rt, &part),
-        Err(fault) => explain(&rt, fault),
+        Ok(part) => encode(rt, &part),
+        Err(fault) => explain(rt, fault),
     }
 }
 

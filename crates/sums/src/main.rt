@@ -4,6 +4,7 @@ use places::Refusal;
 use running_totals::RunningTotals;
 use std::alloc::{AllocError, Global};
 use std::io::{Read, Write};
+use std::process::ExitCode;
 use sum_text::{Method, Sum, SumTextFault, WriteFault, read_sum, write_sum};
 
 // The program ends with status 1; what is wrong has been said.
@@ -11,18 +12,25 @@ use sum_text::{Method, Sum, SumTextFault, WriteFault, read_sum, write_sum};
 struct Stopped;
 
 // Reads a sum from standard input, and writes its clauses to standard output.
-fn main(rt: HostRuntime) -> Result<(), Stopped> {
+fn main(rt: HostRuntime) -> ExitCode {
+    match work(&rt) {
+        Ok(()) => ExitCode::SUCCESS,
+        Err(Stopped) => ExitCode::FAILURE,
+    }
+}
+
+fn work(rt: &HostRuntime) -> Result<(), Stopped> {
     let mut text = String::new(rt.alloc());
     if let Err(error) = rt.stdin().read_to_string(&mut text) {
         let _ = eprintln!(rt; "sums: standard input: {error}");
         return Err(Stopped);
     }
     let Ok(words) = words_of(rt.alloc(), text.as_str()) else {
-        return no_memory(&rt);
+        return no_memory(rt);
     };
     match read_sum(rt.alloc(), words.as_slice()) {
-        Ok(sum) => encode(&rt, &sum),
-        Err(fault) => explain(&rt, fault),
+        Ok(sum) => encode(rt, &sum),
+        Err(fault) => explain(rt, fault),
     }
 }
 

@@ -10,8 +10,8 @@ use Rattle.adder_network.proofs.adder.write_clauses.Goals as goal
 pub loop-clause-init : goal.loop-clause-init
 loop-clause-init g c = writes_none g.P.Place c.args.place.now
 
-pub returns-in-err-put : goal.returns-in-err-put
-returns-in-err-put g c =
+pub returns-in_err-put : goal.returns-in_err-put
+returns-in_err-put g c =
     let cs = c.args.clauses.now in
     let i = c.loop-clause.clause-index in
     let x = c.clause-item.result in
@@ -19,8 +19,8 @@ returns-in-err-put g c =
     let q = c.put.new.self in
     let ok = every_get_d valid cs i x c.loop-clause-test.true c.requires in
     let one = writes_put g.P.Place x x refl (ap valid c.clause-item.is ∙ ok) p q c.put.result c.put.ensures.fault c.put.ensures.holds c.put.ensures.room in
-    loop_exit g.P.Place (λ x. x ∷ []) cs cs (joined_one cs) c.args.place.now p i c.loop-clause.invariant x c.loop-clause-test.true (sym c.clause-item.is) q _ c.from-residual.result c.from-residual.ensures.1
-    (subst (λ o. Writes g.P.Place (x ∷ []) p q (result_err o)) c.in-err-put.was one)
+    loop_exit g.P.Place (λ x. x ∷ []) cs cs (joined_one cs) c.args.place.now p i c.loop-clause.invariant x c.loop-clause-test.true (sym c.clause-item.is) q _ c.from_residual.result c.from_residual.ensures.1
+    (subst (λ o. Writes g.P.Place (x ∷ []) p q (result_err o)) c.in_err-put.was one)
 
 pub loop-clause-preserved : goal.loop-clause-preserved
 loop-clause-preserved g c =
@@ -32,7 +32,7 @@ loop-clause-preserved g c =
     let ok = every_get_d valid cs i x c.loop-clause-test.true c.requires in
     let one = writes_put g.P.Place x x refl (ap valid c.clause-item.is ∙ ok) p q c.put.result c.put.ensures.fault c.put.ensures.holds c.put.ensures.room in
     loop_more g.P.Place (λ x. x ∷ []) cs cs (joined_one cs) c.args.place.now p i c.loop-clause.invariant x c.loop-clause-test.true (sym c.clause-item.is) q
-    (subst (λ o. Writes g.P.Place (x ∷ []) p q (result_err o)) c.in-ok-put.was one)
+    (subst (λ o. Writes g.P.Place (x ∷ []) p q (result_err o)) c.in_ok-put.was one)
 
 pub returns : goal.returns
 returns g c =

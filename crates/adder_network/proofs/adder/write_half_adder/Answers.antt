@@ -8,16 +8,16 @@ use Rattle.adder_network.proofs.adder.write_half_adder.Goals as goal
 pub write_clauses-requires : goal.write_clauses-requires
 write_clauses-requires g c = (omega arith, (table_is (c.args.a ∷ c.args.b ∷ c.args.sum ∷ (c.args.sum + 1) ∷ []) c.requires (take 5 (half_clauses 0 1 2 3)) refl).1)
 
-pub returns-in-err-write_clauses : goal.returns-in-err-write_clauses
-returns-in-err-write_clauses g c =
+pub returns-in_err-write_clauses : goal.returns-in_err-write_clauses
+returns-in_err-write_clauses g c =
     let vs = c.args.a ∷ c.args.b ∷ c.args.sum ∷ (c.args.sum + 1) ∷ [] in
     let N = λ (i : ℕ). get_or vs i 0 in
     let sums = take 5 (half_clauses 0 1 2 3) in
     let p = c.args.place.now in
     let q = c.write_clauses.new.place in
-    writes_exit g.P.Place _ p q _ c.from-residual.result c.from-residual.ensures.1
+    writes_exit g.P.Place _ p q _ c.from_residual.result c.from_residual.ensures.1
     (writes_stops g.P.Place (numbered N sums) (numbered N (drop 5 (half_clauses 0 1 2 3))) p q _
-    (table_written vs c.requires g.P.Place sums refl p q _ c.in-err-write_clauses.ensures))
+    (table_written vs c.requires g.P.Place sums refl p q _ c.in_err-write_clauses.ensures))
 
 pub write_clauses-requires-2 : goal.write_clauses-requires-2
 write_clauses-requires-2 g c = (omega arith, (table_is (c.args.a ∷ c.args.b ∷ c.args.sum ∷ (c.args.sum + 1) ∷ []) c.requires (drop 5 (half_clauses 0 1 2 3)) refl).1)
@@ -32,5 +32,5 @@ returns g c =
     let q = c.write_clauses.new.place in
     let r = c.write_clauses-2.new.place in
     writes_then g.P.Place (numbered N sums) (numbered N carries) p q r _
-    (table_written vs c.requires g.P.Place sums refl p q _ c.in-ok-write_clauses.ensures)
+    (table_written vs c.requires g.P.Place sums refl p q _ c.in_ok-write_clauses.ensures)
     (table_written vs c.requires g.P.Place carries refl q r _ c.write_clauses-2.ensures)

@@ -3,8 +3,8 @@ use Rattle.totals.specs.Numbers.{adders_in, count_from}
 use Rattle.totals.proofs.Numbers.{count_last, count_more, few_adders, with_bit_few}
 use Rattle.adder_network.proofs.lines.count_adders.Goals as goal
 
-pub overflow-add-carries : goal.overflow-add-carries
-overflow-add-carries c =
+pub overflow_add-carries : goal.overflow_add-carries
+overflow_add-carries c =
     let inv = c.loop-index.invariant in
     omega (arith, inv.1, c.count_with_bit.ensures, with_bit_few (λ i. i) c.loop-index.index 0 c.args.weights.now, c.requires)
 

@@ -9,8 +9,8 @@ use Rattle.adder_network.specs.Variables.{bit_of, listed}
 use Rattle.adder_network.proofs.Whole.{whole_is}
 use Rattle.adder_network.proofs.network.write_network.Goals as goal
 
-pub returns-in-err-bits : goal.returns-in-err-bits
-returns-in-err-bits g c =
+pub returns-in_err-bits : goal.returns-in_err-bits
+returns-in_err-bits g c =
     let vs = c.args.variables.now in
     let ws = c.args.weights.now in
     let t = c.args.target in
@@ -18,9 +18,9 @@ returns-in-err-bits g c =
     let p = c.args.place.now in
     let q = c.write_lines.new.place in
     let w = lines_from vs ws 0 f 0 in
-    writes_exit g.P.Place _ p q _ c.from-residual.result c.from-residual.ensures.1
-    (subst (λ cs. Writes g.P.Place cs p q (Some c.in-err-bits.field-0.0)) (sym (whole_is vs ws t f))
-    (writes_stops g.P.Place (wiring f w.adders) (plain (closing (get_or vs 0 0) 0 t (map listed (map bit_of w.bits)))) p q _ c.in-err-bits.ensures))
+    writes_exit g.P.Place _ p q _ c.from_residual.result c.from_residual.ensures.1
+    (subst (λ cs. Writes g.P.Place cs p q (Some c.in_err-bits.field-0.0)) (sym (whole_is vs ws t f))
+    (writes_stops g.P.Place (wiring f w.adders) (plain (closing (get_or vs 0 0) 0 t (map listed (map bit_of w.bits)))) p q _ c.in_err-bits.ensures))
 
 pub returns : goal.returns
 returns g c =
@@ -32,7 +32,7 @@ returns g c =
     let q = c.write_lines.new.place in
     let r = c.write_closing.new.place in
     let w = lines_from vs ws 0 f 0 in
-    let lined = c.in-ok-bits.ensures in
+    let lined = c.in_ok-bits.ensures in
     subst (λ cs. Writes g.P.Place cs p r (result_err c.write_closing.result)) (sym (whole_is vs ws t f))
     (writes_then g.P.Place (wiring f w.adders) (plain (closing (get_or vs 0 0) 0 t (map listed (map bit_of w.bits)))) p q r (result_err c.write_closing.result) lined.0
     (subst (λ bs. Writes g.P.Place (plain (closing (get_or vs 0 0) 0 t (map listed bs))) q r (result_err c.write_closing.result)) lined.1 c.write_closing.ensures))

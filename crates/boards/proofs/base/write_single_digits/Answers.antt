@@ -10,13 +10,13 @@ use Rattle.boards.proofs.base.write_single_digits.Goals as goal
 pub loop-cell-init : goal.loop-cell-init
 loop-cell-init g c = writes_none g.P.Place c.args.place.now
 
-pub returns-in-err-write_no_two_digits : goal.returns-in-err-write_no_two_digits
-returns-in-err-write_no_two_digits g c =
+pub returns-in_err-write_no_two_digits : goal.returns-in_err-write_no_two_digits
+returns-in_err-write_no_two_digits g c =
     let b = c.args.board.now in
     let i = c.loop-cell.cell in
     let n = length-range_with_len 0 (cells b) in
     loop_exit g.P.Place (one_turn b) (range_with_len 0 (cells b)) _ (one_each_is b) c.args.place.now c.loop-cell.place i c.loop-cell.invariant
-    (i) (omega arith) (at_counting 0 (cells b) i i (omega arith) (omega arith)) c.write_no_two_digits.new.place _ c.from-residual.result c.from-residual.ensures.1 c.in-err-write_no_two_digits.ensures
+    (i) (omega arith) (at_counting 0 (cells b) i i (omega arith) (omega arith)) c.write_no_two_digits.new.place _ c.from_residual.result c.from_residual.ensures.1 c.in_err-write_no_two_digits.ensures
 
 pub loop-cell-preserved : goal.loop-cell-preserved
 loop-cell-preserved g c =
@@ -24,7 +24,7 @@ loop-cell-preserved g c =
     let i = c.loop-cell.cell in
     let n = length-range_with_len 0 (cells b) in
     loop_more g.P.Place (one_turn b) (range_with_len 0 (cells b)) _ (one_each_is b) c.args.place.now c.loop-cell.place i c.loop-cell.invariant
-    (i) (omega arith) (at_counting 0 (cells b) i i (omega arith) (omega arith)) c.write_no_two_digits.new.place c.in-ok-write_no_two_digits.ensures
+    (i) (omega arith) (at_counting 0 (cells b) i i (omega arith) (omega arith)) c.write_no_two_digits.new.place c.in_ok-write_no_two_digits.ensures
 
 pub returns : goal.returns
 returns g c =

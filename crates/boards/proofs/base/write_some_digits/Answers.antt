@@ -10,13 +10,13 @@ use Rattle.boards.proofs.base.write_some_digits.Goals as goal
 pub loop-cell-init : goal.loop-cell-init
 loop-cell-init g c = writes_none g.P.Place c.args.place.now
 
-pub returns-in-err-write_some_digit : goal.returns-in-err-write_some_digit
-returns-in-err-write_some_digit g c =
+pub returns-in_err-write_some_digit : goal.returns-in_err-write_some_digit
+returns-in_err-write_some_digit g c =
     let b = c.args.board.now in
     let i = c.loop-cell.cell in
     let n = length-range_with_len 0 (cells b) in
     loop_exit g.P.Place (some_turn b) (range_with_len 0 (cells b)) _ (some_each_is b) c.args.place.now c.loop-cell.place i c.loop-cell.invariant
-    (i) (omega arith) (at_counting 0 (cells b) i i (omega arith) (omega arith)) c.write_some_digit.new.place _ c.from-residual.result c.from-residual.ensures.1 c.in-err-write_some_digit.ensures
+    (i) (omega arith) (at_counting 0 (cells b) i i (omega arith) (omega arith)) c.write_some_digit.new.place _ c.from_residual.result c.from_residual.ensures.1 c.in_err-write_some_digit.ensures
 
 pub loop-cell-preserved : goal.loop-cell-preserved
 loop-cell-preserved g c =
@@ -24,7 +24,7 @@ loop-cell-preserved g c =
     let i = c.loop-cell.cell in
     let n = length-range_with_len 0 (cells b) in
     loop_more g.P.Place (some_turn b) (range_with_len 0 (cells b)) _ (some_each_is b) c.args.place.now c.loop-cell.place i c.loop-cell.invariant
-    (i) (omega arith) (at_counting 0 (cells b) i i (omega arith) (omega arith)) c.write_some_digit.new.place c.in-ok-write_some_digit.ensures
+    (i) (omega arith) (at_counting 0 (cells b) i i (omega arith) (omega arith)) c.write_some_digit.new.place c.in_ok-write_some_digit.ensures
 
 pub returns : goal.returns
 returns g c =

@@ -15,13 +15,13 @@ loop-index-init g c =
     subst (λ k. Writes g.P.Place (flat_map (later_turn b c.args.cell c.args.digit) (take k (range_with_len (c.args.digit + 1) (side b - c.args.digit)))) c.args.place.now c.args.place.now None) e
     (writes_none g.P.Place c.args.place.now)
 
-pub returns-in-err-write_not_both : goal.returns-in-err-write_not_both
-returns-in-err-write_not_both g c =
+pub returns-in_err-write_not_both : goal.returns-in_err-write_not_both
+returns-in_err-write_not_both g c =
     let b = c.args.board.now in
     let i = c.loop-index.index - c.args.digit in
     let n = length-range_with_len (c.args.digit + 1) (side b - c.args.digit) in
     loop_exit g.P.Place (later_turn b c.args.cell c.args.digit) (range_with_len (c.args.digit + 1) (side b - c.args.digit)) _ (later_is b c.args.cell c.args.digit) c.args.place.now c.loop-index.place i c.loop-index.invariant
-    (c.loop-index.index + 1) (omega arith) (at_counting (c.args.digit + 1) (side b - c.args.digit) i (c.loop-index.index + 1) (omega arith) (omega arith)) c.write_not_both.new.place _ c.from-residual.result c.from-residual.ensures.1 c.in-err-write_not_both.ensures
+    (c.loop-index.index + 1) (omega arith) (at_counting (c.args.digit + 1) (side b - c.args.digit) i (c.loop-index.index + 1) (omega arith) (omega arith)) c.write_not_both.new.place _ c.from_residual.result c.from_residual.ensures.1 c.in_err-write_not_both.ensures
 
 pub loop-index-preserved : goal.loop-index-preserved
 loop-index-preserved g c =
@@ -31,7 +31,7 @@ loop-index-preserved g c =
     let e : i + 1 ≡ c.loop-index.index + 1 - c.args.digit = omega arith in
     subst (λ k. Writes g.P.Place (flat_map (later_turn b c.args.cell c.args.digit) (take k (range_with_len (c.args.digit + 1) (side b - c.args.digit)))) c.args.place.now c.write_not_both.new.place None) e
     (loop_more g.P.Place (later_turn b c.args.cell c.args.digit) (range_with_len (c.args.digit + 1) (side b - c.args.digit)) _ (later_is b c.args.cell c.args.digit) c.args.place.now c.loop-index.place i c.loop-index.invariant
-    (c.loop-index.index + 1) (omega arith) (at_counting (c.args.digit + 1) (side b - c.args.digit) i (c.loop-index.index + 1) (omega arith) (omega arith)) c.write_not_both.new.place c.in-ok-write_not_both.ensures)
+    (c.loop-index.index + 1) (omega arith) (at_counting (c.args.digit + 1) (side b - c.args.digit) i (c.loop-index.index + 1) (omega arith) (omega arith)) c.write_not_both.new.place c.in_ok-write_not_both.ensures)
 
 pub returns : goal.returns
 returns g c =

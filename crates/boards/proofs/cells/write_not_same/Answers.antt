@@ -10,13 +10,13 @@ use Rattle.boards.proofs.cells.write_not_same.Goals as goal
 pub loop-index-init : goal.loop-index-init
 loop-index-init g c = writes_none g.P.Place c.args.place.now
 
-pub returns-in-err-write_not_both : goal.returns-in-err-write_not_both
-returns-in-err-write_not_both g c =
+pub returns-in_err-write_not_both : goal.returns-in_err-write_not_both
+returns-in_err-write_not_both g c =
     let b = c.args.board.now in
     let i = c.loop-index.index in
     let n = length-range_with_len 1 (side b) in
     loop_exit g.P.Place (same_turn b c.args.first c.args.second) (range_with_len 1 (side b)) _ (not_same_is b c.args.first c.args.second) c.args.place.now c.loop-index.place i c.loop-index.invariant
-    (i + 1) (omega arith) (at_counting 1 (side b) i (i + 1) (omega arith) (omega arith)) c.write_not_both.new.place _ c.from-residual.result c.from-residual.ensures.1 c.in-err-write_not_both.ensures
+    (i + 1) (omega arith) (at_counting 1 (side b) i (i + 1) (omega arith) (omega arith)) c.write_not_both.new.place _ c.from_residual.result c.from_residual.ensures.1 c.in_err-write_not_both.ensures
 
 pub loop-index-preserved : goal.loop-index-preserved
 loop-index-preserved g c =
@@ -24,7 +24,7 @@ loop-index-preserved g c =
     let i = c.loop-index.index in
     let n = length-range_with_len 1 (side b) in
     loop_more g.P.Place (same_turn b c.args.first c.args.second) (range_with_len 1 (side b)) _ (not_same_is b c.args.first c.args.second) c.args.place.now c.loop-index.place i c.loop-index.invariant
-    (i + 1) (omega arith) (at_counting 1 (side b) i (i + 1) (omega arith) (omega arith)) c.write_not_both.new.place c.in-ok-write_not_both.ensures
+    (i + 1) (omega arith) (at_counting 1 (side b) i (i + 1) (omega arith) (omega arith)) c.write_not_both.new.place c.in_ok-write_not_both.ensures
 
 pub returns : goal.returns
 returns g c =

@@ -10,8 +10,8 @@ use Rattle.boards.specs.Board.{side}
 use Rattle.clone_pair.proofs.Turns.{same_is, turn, turn_put}
 use Rattle.clone_pair.proofs.same.write_same.Goals as goal
 
-pub returns-in-err-put : goal.returns-in-err-put
-returns-in-err-put g c =
+pub returns-in_err-put : goal.returns-in_err-put
+returns-in_err-put g c =
     let b = c.args.board.now in
     let one = c.args.one in
     let other = c.args.other in
@@ -24,8 +24,8 @@ returns-in-err-put g c =
     c.variable-one.ensures.value c.variable-other.ensures.value c.variable-one.ensures.bound c.variable-other.ensures.bound
     (omega (arith, ints, c.variable-one.ensures.bound)) (omega (arith, ints, c.variable-other.ensures.bound)) p q c.put.result c.put.ensures.fault c.put.ensures.holds c.put.ensures.room in
     λ f. loop_exit g.P.Place (turn b one other) (range_with_len 1 (side b)) _ (same_is b one other f) c.args.place.now p i c.loop-index.invariant
-    (i + 1) (omega arith) (at_counting 1 (side b) i (i + 1) less (omega arith)) q _ c.from-residual.result c.from-residual.ensures.1
-    (subst (λ o. Writes g.P.Place (turn b one other (i + 1)) p q (result_err o)) c.in-err-put.was put)
+    (i + 1) (omega arith) (at_counting 1 (side b) i (i + 1) less (omega arith)) q _ c.from_residual.result c.from_residual.ensures.1
+    (subst (λ o. Writes g.P.Place (turn b one other (i + 1)) p q (result_err o)) c.in_err-put.was put)
 
 pub loop-index-preserved : goal.loop-index-preserved
 loop-index-preserved g c =
@@ -42,7 +42,7 @@ loop-index-preserved g c =
     (omega (arith, ints, c.variable-one.ensures.bound)) (omega (arith, ints, c.variable-other.ensures.bound)) p q c.put.result c.put.ensures.fault c.put.ensures.holds c.put.ensures.room in
     loop_more g.P.Place (turn b one other) (range_with_len 1 (side b)) _ (same_is b one other 0) c.args.place.now p i c.loop-index.invariant
     (i + 1) (omega arith) (at_counting 1 (side b) i (i + 1) less (omega arith)) q
-    (subst (λ o. Writes g.P.Place (turn b one other (i + 1)) p q (result_err o)) c.in-ok-put.was put)
+    (subst (λ o. Writes g.P.Place (turn b one other (i + 1)) p q (result_err o)) c.in_ok-put.was put)
 
 pub returns : goal.returns
 returns g c =

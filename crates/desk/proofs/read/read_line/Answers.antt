@@ -8,10 +8,10 @@ returns-then-ne c =
     unknown c.args.line.now c.without_comment.result.now c.in-Some.word.now c.in-Some.rest.now c.without_comment.ensures c.in-Some.ensures
     (ap not (sym c.if-ne.true) ∙ same_by c.in-Some.word.now (codes "side") c.ne.result c.ne.ensures)
 
-pub returns-in-default-next_word : goal.returns-in-default-next_word
-returns-in-default-next_word c =
+pub returns-in_default-next_word : goal.returns-in_default-next_word
+returns-in_default-next_word c =
     no_number c.args.line.now c.without_comment.result.now c.in-Some.word.now c.in-Some.rest.now c.without_comment.ensures c.in-Some.ensures
-    (ap not (sym c.if-ne.false) ∙ same_by c.in-Some.word.now (codes "side") c.ne.result c.ne.ensures) c.in-default-next_word.ensures
+    (ap not (sym c.if-ne.false) ∙ same_by c.in-Some.word.now (codes "side") c.ne.result c.ne.ensures) c.in_default-next_word.ensures
 
 pub returns-then-is_some : goal.returns-then-is_some
 returns-then-is_some c =

@@ -12,7 +12,7 @@ returns-else-has g c =
     let e = prefix_len-drop_no g.C.Class.holds c.args.bytes.now c.loop-end.end 0 c.loop-end-test.true (sym c.has.ensures ∙ c.if-has.false) in
     record { value = omega arith; within = omega arith }
 
-pub returns-after-loop-end : goal.returns-after-loop-end
-returns-after-loop-end g c =
+pub returns-after_loop-end : goal.returns-after_loop-end
+returns-after_loop-end g c =
     let e = prefix_len-drop_all g.C.Class.holds c.args.bytes.now c.loop-end.end c.loop-end-test.false in
     record { value = omega arith; within = omega arith }

@@ -12,13 +12,13 @@ use Rattle.running_totals.proofs.table.write_row.Goals as goal
 pub loop-sum-init : goal.loop-sum-init
 loop-sum-init g c = writes_none g.P.Place c.args.place.now
 
-pub returns-in-err-write_step : goal.returns-in-err-write_step
-returns-in-err-write_step g c =
+pub returns-in_err-write_step : goal.returns-in_err-write_step
+returns-in_err-write_step g c =
     let N = number c.args.variables.now c.args.table.first in
     let i = c.loop-sum.sum in
     let n = length-range_with_len 0 (c.args.table.target + 1) in
     loop_exit g.P.Place (λ u. numbered N (step c.args.table.target c.args.index c.args.weight u)) (range_with_len 0 (c.args.table.target + 1)) _ (numbered_joined N (step c.args.table.target c.args.index c.args.weight) (range_with_len 0 (c.args.table.target + 1))) c.args.place.now c.loop-sum.place i c.loop-sum.invariant
-    i (omega arith) (at_counting 0 (c.args.table.target + 1) i i (omega arith) (omega arith)) c.write_step.new.place _ c.from-residual.result c.from-residual.ensures.1 c.in-err-write_step.ensures
+    i (omega arith) (at_counting 0 (c.args.table.target + 1) i i (omega arith) (omega arith)) c.write_step.new.place _ c.from_residual.result c.from_residual.ensures.1 c.in_err-write_step.ensures
 
 pub loop-sum-preserved : goal.loop-sum-preserved
 loop-sum-preserved g c =
@@ -26,7 +26,7 @@ loop-sum-preserved g c =
     let i = c.loop-sum.sum in
     let n = length-range_with_len 0 (c.args.table.target + 1) in
     loop_more g.P.Place (λ u. numbered N (step c.args.table.target c.args.index c.args.weight u)) (range_with_len 0 (c.args.table.target + 1)) _ (numbered_joined N (step c.args.table.target c.args.index c.args.weight) (range_with_len 0 (c.args.table.target + 1))) c.args.place.now c.loop-sum.place i c.loop-sum.invariant
-    i (omega arith) (at_counting 0 (c.args.table.target + 1) i i (omega arith) (omega arith)) c.write_step.new.place c.in-ok-write_step.ensures
+    i (omega arith) (at_counting 0 (c.args.table.target + 1) i i (omega arith) (omega arith)) c.write_step.new.place c.in_ok-write_step.ensures
 
 pub returns : goal.returns
 returns g c =

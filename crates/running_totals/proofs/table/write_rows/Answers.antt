@@ -12,13 +12,13 @@ use Rattle.running_totals.proofs.table.write_rows.Goals as goal
 pub loop-index-init : goal.loop-index-init
 loop-index-init g c = writes_none g.P.Place c.args.place.now
 
-pub returns-in-err-write_row : goal.returns-in-err-write_row
-returns-in-err-write_row g c =
+pub returns-in_err-write_row : goal.returns-in_err-write_row
+returns-in_err-write_row g c =
     let N = number c.args.variables.now c.args.table.first in
     let i = c.loop-index.index in
     let n = length-range_with_len 0 (length c.args.weights.now) in
     loop_exit g.P.Place (λ k. numbered N (row c.args.weights.now c.args.table.target k)) (range_with_len 0 (length c.args.weights.now)) _ (numbered_joined N (row c.args.weights.now c.args.table.target) (range_with_len 0 (length c.args.weights.now))) c.args.place.now c.loop-index.place i c.loop-index.invariant
-    i (omega arith) (at_counting 0 (length c.args.weights.now) i i (omega arith) (omega arith)) c.write_row.new.place _ c.from-residual.result c.from-residual.ensures.1 c.in-err-write_row.ensures
+    i (omega arith) (at_counting 0 (length c.args.weights.now) i i (omega arith) (omega arith)) c.write_row.new.place _ c.from_residual.result c.from_residual.ensures.1 c.in_err-write_row.ensures
 
 pub loop-index-preserved : goal.loop-index-preserved
 loop-index-preserved g c =
@@ -26,7 +26,7 @@ loop-index-preserved g c =
     let i = c.loop-index.index in
     let n = length-range_with_len 0 (length c.args.weights.now) in
     loop_more g.P.Place (λ k. numbered N (row c.args.weights.now c.args.table.target k)) (range_with_len 0 (length c.args.weights.now)) _ (numbered_joined N (row c.args.weights.now c.args.table.target) (range_with_len 0 (length c.args.weights.now))) c.args.place.now c.loop-index.place i c.loop-index.invariant
-    i (omega arith) (at_counting 0 (length c.args.weights.now) i i (omega arith) (omega arith)) c.write_row.new.place c.in-ok-write_row.ensures
+    i (omega arith) (at_counting 0 (length c.args.weights.now) i i (omega arith) (omega arith)) c.write_row.new.place c.in_ok-write_row.ensures
 
 pub returns : goal.returns
 returns g c =

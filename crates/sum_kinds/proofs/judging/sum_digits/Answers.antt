@@ -12,7 +12,7 @@ loop-cell-preserved c =
     let cs = c.args.cells.now in
     let i = c.loop-cell.cell-index in
     let inv = c.loop-cell.invariant in
-    let d = c.type-inv.grid (get_or cs i 0) in
+    let d = c.type_inv.grid (get_or cs i 0) in
     (omega (arith, sum_more g cs i c.loop-cell-test.true, inv.0), omega (arith, inv.1, d))
 
 pub returns : goal.returns

@@ -7,13 +7,13 @@ use Rattle.sum_text.proofs.read.read_items.Goals as goal
 pub loop-word-preserved : goal.loop-word-preserved
 loop-word-preserved c =
     let old = c.loop-word.invariant in
-    let one = c.in-ok-push.ensures.by_index in
-    let two = c.in-ok-push-2.ensures.by_index in (
-      omega (arith, old.0, c.in-ok-push.ensures.len),
-      omega (arith, old.1, c.in-ok-push-2.ensures.len),
-      more_items c.args.words.now c.loop-word.word-index c.in-ok-variable.variable c.in-ok-variable.weight
+    let one = c.in_ok-push.ensures.by_index in
+    let two = c.in_ok-push-2.ensures.by_index in (
+      omega (arith, old.0, c.in_ok-push.ensures.len),
+      omega (arith, old.1, c.in_ok-push-2.ensures.len),
+      more_items c.args.words.now c.loop-word.word-index c.in_ok-variable.variable c.in_ok-variable.weight
           (vec_items c.loop-word.variables) (vec_items c.loop-word.weights) (vec_items c.push.new.self) (vec_items c.push-in-loop-word.new.self)
-          old.2 c.in-ok-variable.ensures
+          old.2 c.in_ok-variable.ensures
           (λ k l. one.0 k 0 (omega (arith, old.0))) (ap (λ i. get_or (vec_items c.push.new.self) i 0) (sym old.0) ∙ one.1 0 refl)
           (λ k l. two.0 k 0 (omega (arith, old.1))) (ap (λ i. get_or (vec_items c.push-in-loop-word.new.self) i 0) (sym old.1) ∙ two.1 0 refl),
     )
@@ -28,7 +28,7 @@ returns c =
       each = λ k l. old.2 k (omega (arith, n));
     }
 
-pub returns-in-err-variable : goal.returns-in-err-variable
-returns-in-err-variable c =
+pub returns-in_err-variable : goal.returns-in_err-variable
+returns-in_err-variable c =
     first_item c.args.words.now c.loop-word.word-index (vec_items c.loop-word.variables) (vec_items c.loop-word.weights)
-    c.in-err-variable.field-0.0 c.from-residual.result (omega arith) c.loop-word.invariant.2 c.in-err-variable.ensures c.from-residual.ensures.1
+    c.in_err-variable.field-0.0 c.from_residual.result (omega arith) c.loop-word.invariant.2 c.in_err-variable.ensures c.from_residual.ensures.1

@@ -18,5 +18,5 @@ returns c =
     let after : c.write_heading.new.bytes ≡ heading v n ++ rest =
     c.write_heading.ensures.after ∙ ap (λ o. cond (is_some o) (heading v n ++ rest) (replicate 48 0)) found in
     whole v n c.unwrap-len.result (held_text c.args.place.now) c.write_heading.new.bytes rest _ _ _ c.used_bytes.result.now
-    c.count.ensures len after c.new-text.ensures.items c.in-ok-extend_from_slice.ensures.items
-    c.in-ok-extend_from_slice-2.ensures.items c.used_bytes.ensures.value
+    c.count.ensures len after c.new-text.ensures.items c.in_ok-extend_from_slice.ensures.items
+    c.in_ok-extend_from_slice-2.ensures.items c.used_bytes.ensures.value

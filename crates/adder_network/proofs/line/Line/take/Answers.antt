@@ -7,8 +7,8 @@ bounds-self-self c =
     let l = c.args.self.now in
     omega (arith, c.requires, l.fits, queue_length l.variables l.start l.end l.ordered (omega (arith, l.fits, l.space)))
 
-pub invariant-of-self : goal.invariant-of-self
-invariant-of-self c =
+pub invariant_of-self : goal.invariant_of-self
+invariant_of-self c =
     let l = c.args.self.now in
     (l.space, (omega (arith, c.requires, queue_length l.variables l.start l.end l.ordered (omega (arith, l.fits, l.space))), (l.fits, tt)))
 

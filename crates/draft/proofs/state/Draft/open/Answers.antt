@@ -9,34 +9,34 @@ use Rattle.draft.proofs.state.Draft.open.Goals as goal
 
 pub returns-then-count-gt0 : goal.returns-then-count-gt0
 returns-then-count-gt0 g c =
-    let found : board_of c.args.side ≡ Some c.in-ok-board.board = sym c.of_side.ensures ∙ c.in-ok-board.ensures.ok-part in
+    let found : board_of c.args.side ≡ Some c.in_ok-board.board = sym c.of_side.ensures ∙ c.in_ok-board.ensures.ok-part in
     let fault = not_empty g.P.Place c.args.side c.args.place.now _ found (omega arith) in
     record { fault = fault; refusal = reported g.P.Place c.args.side c.args.place.now _ fault; opened = (refl, refl) }
 
-pub returns-in-err-written : goal.returns-in-err-written
-returns-in-err-written g c =
+pub returns-in_err-written : goal.returns-in_err-written
+returns-in_err-written g c =
     let p = c.args.place.now in
-    let b = c.in-ok-board.board in
-    let found : board_of c.args.side ≡ Some b = sym c.of_side.ensures ∙ c.in-ok-board.ensures.ok-part in
-    let was = c.in-err-written.was in
+    let b = c.in_ok-board.board in
+    let found : board_of c.args.side ≡ Some b = sym c.of_side.ensures ∙ c.in_ok-board.ensures.ok-part in
+    let was = c.in_err-written.was in
     let w = subst (λ o. Writes g.P.Place (base_clauses b) p c.write_base-written.new.place (result_err o)) was c.write_base-written.ensures in
     elim c.if-is_err.branch [
       | then-is_err v ↦
-          broken g.P.Place c.args.side p b found (omega arith) c.write_base-written.new.place c.from-residual-in-err-written.result _
-          c.from-residual-in-err-written.ensures.1 w c.if-is_err.place
+          broken g.P.Place c.args.side p b found (omega arith) c.write_base-written.new.place c.from_residual-in_err-written.result _
+          c.from_residual-in_err-written.ensures.1 w c.if-is_err.place
           (ap g.P.Place.held v.place-is ∙ v.cut_back.ensures.holds) (ap g.P.Place.free v.place-is ∙ v.cut_back.ensures.room)
       | else-is_err v ↦ let no : ◌≡◌ {A = Bool} true false = sym (ap is_err was) ∙ sym c.is_err.ensures.value ∙ v.if-is_err.false in absurd (grind arith)
     ]
 
-pub invariant-of-result : goal.invariant-of-result
-invariant-of-result g c = let l = mul-le-mul c.cells.ensures.bound c.side.ensures.bound.1 in (omega arith, tt)
+pub invariant_of-result : goal.invariant_of-result
+invariant_of-result g c = let l = mul-le-mul c.cells.ensures.bound c.side.ensures.bound.1 in (omega arith, tt)
 
 pub returns : goal.returns
 returns g c =
     let p = c.args.place.now in
-    let b = c.in-ok-board.board in
-    let found : board_of c.args.side ≡ Some b = sym c.of_side.ensures ∙ c.in-ok-board.ensures.ok-part in
-    let was = c.in-ok-written.was in
+    let b = c.in_ok-board.board in
+    let found : board_of c.args.side ≡ Some b = sym c.of_side.ensures ∙ c.in_ok-board.ensures.ok-part in
+    let was = c.in_ok-written.was in
     let w = subst (λ o. Writes g.P.Place (base_clauses b) p c.write_base-written.new.place (result_err o)) was c.write_base-written.ensures in
     elim c.if-is_err.branch [
       | then-is_err v ↦ let no : ◌≡◌ {A = Bool} false true = sym (ap is_err was) ∙ sym c.is_err.ensures.value ∙ v.if-is_err.true in absurd (grind arith)

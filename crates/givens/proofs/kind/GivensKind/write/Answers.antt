@@ -11,5 +11,5 @@ pub write_digits-requires : goal.write_digits-requires
 write_digits-requires g c =
     let b = c.args.board.now in
     let body = c.args.body.now in
-    let parts = both_none (length_fault (cells b) (cells b) body) _ (sym c.in-ok-test.ensures) in
+    let parts = both_none (length_fault (cells b) (cells b) body) _ (sym c.in_ok-test.ensures) in
     record { few = omega (arith, length_between (cells b) (cells b) body parts.0, cells_small b); characters = characters_fit b body parts.1 }

@@ -17,8 +17,8 @@ sum_digits-requires c =
     let b = c.args.board.now in
     let body = c.args.body.now in
     let g = c.args.grid.now in
-    let G = grid_good b g (sym c.in-ok-check_grid.ensures) in
-    let parts = both_none (length_fault 2 (side b + 1) body) _ (sym c.in-ok-test.ensures) in
+    let G = grid_good b g (sym c.in_ok-check_grid.ensures) in
+    let parts = both_none (length_fault 2 (side b + 1) body) _ (sym c.in_ok-test.ensures) in
     let on = cells_on b body (both_none (cell_fault b body) _ parts.1).0 in
     let few = length_between 2 (side b + 1) body parts.0 in
     let n = G.size in
@@ -32,6 +32,6 @@ pub returns : goal.returns
 returns c =
     let g = c.args.grid.now in
     let body = c.args.body.now in (
-      ap (λ o. option_or o (grid_fault c.args.board.now g)) (sym c.in-ok-test.ensures) ∙ sym c.in-ok-check_grid.ensures,
+      ap (λ o. option_or o (grid_fault c.args.board.now g)) (sym c.in_ok-test.ensures) ∙ sym c.in_ok-check_grid.ensures,
       ap (λ n. eqb n (get_or g (get_or body 0 0) 0)) (c.sum_digits.ensures ∙ ap (digit_sum g) (rest_is body 1)),
     )

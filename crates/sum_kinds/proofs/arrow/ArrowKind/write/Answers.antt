@@ -11,24 +11,24 @@ pub push_cells-requires : goal.push_cells-requires
 push_cells-requires g c =
     let b = c.args.board.now in
     let body = c.args.body.now in
-    omega (arith, c.none-items.ensures.1.1, ap (λ l. length l * side b) (rest_is body 1), arrow_few g.T.Totaller.meaning g.P.Place b c.args.total body c.args.first (map (number b 0) (arrow_items b body)) (arrow_weights b body) (sym c.in-ok-check_first.ensures) (sym c.in-ok-test.ensures) (side b) refl refl refl)
+    omega (arith, c.none-items.ensures.1.1, ap (λ l. length l * side b) (rest_is body 1), arrow_few g.T.Totaller.meaning g.P.Place b c.args.total body c.args.first (map (number b 0) (arrow_items b body)) (arrow_weights b body) (sym c.in_ok-check_first.ensures) (sym c.in_ok-test.ensures) (side b) refl refl refl)
 
 pub push_circle-requires : goal.push_circle-requires
 push_circle-requires g c =
     let b = c.args.board.now in
     let body = c.args.body.now in
-    omega (arith, c.none-items.ensures.1.1, c.push_cells.ensures.1.1, ap (λ l. length l * side b) (rest_is body 1), arrow_few g.T.Totaller.meaning g.P.Place b c.args.total body c.args.first (map (number b 0) (arrow_items b body)) (arrow_weights b body) (sym c.in-ok-check_first.ensures) (sym c.in-ok-test.ensures) (side b) refl refl refl)
+    omega (arith, c.none-items.ensures.1.1, c.push_cells.ensures.1.1, ap (λ l. length l * side b) (rest_is body 1), arrow_few g.T.Totaller.meaning g.P.Place b c.args.total body c.args.first (map (number b 0) (arrow_items b body)) (arrow_weights b body) (sym c.in_ok-check_first.ensures) (sym c.in_ok-test.ensures) (side b) refl refl refl)
 
-pub returns-in-err-fresh : goal.returns-in-err-fresh
-returns-in-err-fresh g c =
+pub returns-in_err-fresh : goal.returns-in_err-fresh
+returns-in_err-fresh g c =
     let 𝓣 = g.T.Totaller.meaning in
     let b = c.args.board.now in
     let total = c.args.total in
     let body = c.args.body.now in
     let f = c.args.first in
     let p = c.args.place.now in
-    let tested = sym c.in-ok-test.ensures in
-    let first = sym c.in-ok-check_first.ensures in
+    let tested = sym c.in_ok-test.ensures in
+    let first = sym c.in_ok-check_first.ensures in
     let rest = rest_is body 1 in
     let vs = c.variables.result.now in
     let ws = c.weights.result.now in
@@ -40,8 +40,8 @@ returns-in-err-fresh g c =
     let et : t ≡ side b = c.side-target.ensures.value in
     let whole = arrow_whole 𝓣 g.P.Place b total body f vs ws first tested t et ev ew in
     let ready = arrow_ready 𝓣 g.P.Place b total body f vs ws first tested t et ev ew in
-    alone_ended arrow 𝓣 g.P.Place b total body f vs ws t whole ready p c.write.new.place (λ i l. refl) _ c.in-err-fresh.ensures
-    c.from-residual-in-err-fresh.result c.from-residual-in-err-fresh.ensures.1
+    alone_ended arrow 𝓣 g.P.Place b total body f vs ws t whole ready p c.write.new.place (λ i l. refl) _ c.in_err-fresh.ensures
+    c.from_residual-in_err-fresh.result c.from_residual-in_err-fresh.ensures.1
 
 pub returns : goal.returns
 returns g c =
@@ -51,8 +51,8 @@ returns g c =
     let body = c.args.body.now in
     let f = c.args.first in
     let p = c.args.place.now in
-    let tested = sym c.in-ok-test.ensures in
-    let first = sym c.in-ok-check_first.ensures in
+    let tested = sym c.in_ok-test.ensures in
+    let first = sym c.in_ok-check_first.ensures in
     let rest = rest_is body 1 in
     let vs = c.variables.result.now in
     let ws = c.weights.result.now in
@@ -65,4 +65,4 @@ returns g c =
     let whole = arrow_whole 𝓣 g.P.Place b total body f vs ws first tested t et ev ew in
     let ready = arrow_ready 𝓣 g.P.Place b total body f vs ws first tested t et ev ew in
     alone_done arrow 𝓣 g.P.Place b total body f vs ws t whole ready p c.write.new.place
-    (arrow_count 𝓣 g.P.Place b total body f vs ws first tested t et ev ew) c.in-ok-fresh.fresh c.in-ok-fresh.ensures
+    (arrow_count 𝓣 g.P.Place b total body f vs ws first tested t et ev ew) c.in_ok-fresh.fresh c.in_ok-fresh.ensures

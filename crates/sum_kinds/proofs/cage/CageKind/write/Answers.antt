@@ -17,19 +17,19 @@ push_cells-requires g c =
       arith,
       c.none-items.ensures.1.1,
       cage_few g.T.Totaller.meaning g.P.Place b c.args.total body c.args.first (map (number b 0) (cell_items b body)) (cell_weights b body)
-          (sym c.in-ok-check_first.ensures) (sym c.in-ok-test.ensures) refl refl,
+          (sym c.in_ok-check_first.ensures) (sym c.in_ok-test.ensures) refl refl,
     )
 
-pub returns-in-err-ready : goal.returns-in-err-ready
-returns-in-err-ready g c =
+pub returns-in_err-ready : goal.returns-in_err-ready
+returns-in_err-ready g c =
     let 𝓣 = g.T.Totaller.meaning in
     let b = c.args.board.now in
     let total = c.args.total in
     let body = c.args.body.now in
     let f = c.args.first in
     let p = c.args.place.now in
-    let tested = sym c.in-ok-test.ensures in
-    let first = sym c.in-ok-check_first.ensures in
+    let tested = sym c.in_ok-test.ensures in
+    let first = sym c.in_ok-check_first.ensures in
     let filled_vs : variables_of c.push_cells.new.items ≡ map (number b 0) (cell_items b body) = c.push_cells.ensures.0 ∙ ap (λ l. l ++ map (number b 0) (cell_items b body)) c.none-items.ensures.0 in
     let filled_ws : weights_of c.push_cells.new.items ≡ cell_weights b body = c.push_cells.ensures.1.0 ∙ ap (λ l. l ++ cell_weights b body) c.none-items.ensures.1.0 in
     let vs = c.variables.result.now in
@@ -38,18 +38,18 @@ returns-in-err-ready g c =
     let ew : ws ≡ cell_weights b body = c.weights.ensures ∙ filled_ws in
     let whole = cage_whole 𝓣 g.P.Place b total body f vs ws first tested ev ew in
     let ready = cage_ready 𝓣 g.P.Place b total body f vs ws first tested ev ew in
-    sum_refused cage 𝓣 g.P.Place b total body f (clauses_of b (no_repeat b body)) vs ws total whole ready p _ c.in-err-ready.ensures c.from-residual-in-err-ready.result c.from-residual-in-err-ready.ensures.1
+    sum_refused cage 𝓣 g.P.Place b total body f (clauses_of b (no_repeat b body)) vs ws total whole ready p _ c.in_err-ready.ensures c.from_residual-in_err-ready.result c.from_residual-in_err-ready.ensures.1
 
-pub returns-in-err-write_no_repeat : goal.returns-in-err-write_no_repeat
-returns-in-err-write_no_repeat g c =
+pub returns-in_err-write_no_repeat : goal.returns-in_err-write_no_repeat
+returns-in_err-write_no_repeat g c =
     let 𝓣 = g.T.Totaller.meaning in
     let b = c.args.board.now in
     let total = c.args.total in
     let body = c.args.body.now in
     let f = c.args.first in
     let p = c.args.place.now in
-    let tested = sym c.in-ok-test.ensures in
-    let first = sym c.in-ok-check_first.ensures in
+    let tested = sym c.in_ok-test.ensures in
+    let first = sym c.in_ok-check_first.ensures in
     let filled_vs : variables_of c.push_cells.new.items ≡ map (number b 0) (cell_items b body) = c.push_cells.ensures.0 ∙ ap (λ l. l ++ map (number b 0) (cell_items b body)) c.none-items.ensures.0 in
     let filled_ws : weights_of c.push_cells.new.items ≡ cell_weights b body = c.push_cells.ensures.1.0 ∙ ap (λ l. l ++ cell_weights b body) c.none-items.ensures.1.0 in
     let vs = c.variables.result.now in
@@ -58,20 +58,20 @@ returns-in-err-write_no_repeat g c =
     let ew : ws ≡ cell_weights b body = c.weights.ensures ∙ filled_ws in
     let whole = cage_whole 𝓣 g.P.Place b total body f vs ws first tested ev ew in
     let ready = cage_ready 𝓣 g.P.Place b total body f vs ws first tested ev ew in
-    let none : ready_fault 𝓣 vs ws total f ≡ None = c.in-ok-ready.ensures.0 in
+    let none : ready_fault 𝓣 vs ws total f ≡ None = c.in_ok-ready.ensures.0 in
     own_stopped cage 𝓣 g.P.Place b total body f (clauses_of b (no_repeat b body)) vs ws total whole ready p none (cage_own 𝓣 g.P.Place b total body f vs ws first tested ev ew)
-    c.write_no_repeat.new.place _ c.in-err-write_no_repeat.ensures c.from-residual-in-err-write_no_repeat.result c.from-residual-in-err-write_no_repeat.ensures.1
+    c.write_no_repeat.new.place _ c.in_err-write_no_repeat.ensures c.from_residual-in_err-write_no_repeat.result c.from_residual-in_err-write_no_repeat.ensures.1
 
-pub returns-in-err-fresh : goal.returns-in-err-fresh
-returns-in-err-fresh g c =
+pub returns-in_err-fresh : goal.returns-in_err-fresh
+returns-in_err-fresh g c =
     let 𝓣 = g.T.Totaller.meaning in
     let b = c.args.board.now in
     let total = c.args.total in
     let body = c.args.body.now in
     let f = c.args.first in
     let p = c.args.place.now in
-    let tested = sym c.in-ok-test.ensures in
-    let first = sym c.in-ok-check_first.ensures in
+    let tested = sym c.in_ok-test.ensures in
+    let first = sym c.in_ok-check_first.ensures in
     let filled_vs : variables_of c.push_cells.new.items ≡ map (number b 0) (cell_items b body) = c.push_cells.ensures.0 ∙ ap (λ l. l ++ map (number b 0) (cell_items b body)) c.none-items.ensures.0 in
     let filled_ws : weights_of c.push_cells.new.items ≡ cell_weights b body = c.push_cells.ensures.1.0 ∙ ap (λ l. l ++ cell_weights b body) c.none-items.ensures.1.0 in
     let vs = c.variables-2.result.now in
@@ -80,9 +80,9 @@ returns-in-err-fresh g c =
     let ew : ws ≡ cell_weights b body = c.weights-2.ensures ∙ filled_ws in
     let whole = cage_whole 𝓣 g.P.Place b total body f vs ws first tested ev ew in
     let ready = cage_ready 𝓣 g.P.Place b total body f vs ws first tested ev ew in
-    let none : ready_fault 𝓣 vs ws total f ≡ None = ap₂ (λ v w. ready_fault 𝓣 v w total f) (ev ∙ sym (c.variables.ensures ∙ filled_vs)) (ew ∙ sym (c.weights.ensures ∙ filled_ws)) ∙ c.in-ok-ready.ensures.0 in
-    sum_stopped cage 𝓣 g.P.Place b total body f (clauses_of b (no_repeat b body)) vs ws total whole ready p none c.write_no_repeat.new.place c.in-ok-write_no_repeat.ensures c.write.new.place
-    (cage_sum 𝓣 g.P.Place b total body f vs ws first tested ev ew) _ c.in-err-fresh.ensures c.from-residual-in-err-fresh.result c.from-residual-in-err-fresh.ensures.1
+    let none : ready_fault 𝓣 vs ws total f ≡ None = ap₂ (λ v w. ready_fault 𝓣 v w total f) (ev ∙ sym (c.variables.ensures ∙ filled_vs)) (ew ∙ sym (c.weights.ensures ∙ filled_ws)) ∙ c.in_ok-ready.ensures.0 in
+    sum_stopped cage 𝓣 g.P.Place b total body f (clauses_of b (no_repeat b body)) vs ws total whole ready p none c.write_no_repeat.new.place c.in_ok-write_no_repeat.ensures c.write.new.place
+    (cage_sum 𝓣 g.P.Place b total body f vs ws first tested ev ew) _ c.in_err-fresh.ensures c.from_residual-in_err-fresh.result c.from_residual-in_err-fresh.ensures.1
 
 pub returns : goal.returns
 returns g c =
@@ -92,8 +92,8 @@ returns g c =
     let body = c.args.body.now in
     let f = c.args.first in
     let p = c.args.place.now in
-    let tested = sym c.in-ok-test.ensures in
-    let first = sym c.in-ok-check_first.ensures in
+    let tested = sym c.in_ok-test.ensures in
+    let first = sym c.in_ok-check_first.ensures in
     let filled_vs : variables_of c.push_cells.new.items ≡ map (number b 0) (cell_items b body) = c.push_cells.ensures.0 ∙ ap (λ l. l ++ map (number b 0) (cell_items b body)) c.none-items.ensures.0 in
     let filled_ws : weights_of c.push_cells.new.items ≡ cell_weights b body = c.push_cells.ensures.1.0 ∙ ap (λ l. l ++ cell_weights b body) c.none-items.ensures.1.0 in
     let vs = c.variables-2.result.now in
@@ -102,6 +102,6 @@ returns g c =
     let ew : ws ≡ cell_weights b body = c.weights-2.ensures ∙ filled_ws in
     let whole = cage_whole 𝓣 g.P.Place b total body f vs ws first tested ev ew in
     let ready = cage_ready 𝓣 g.P.Place b total body f vs ws first tested ev ew in
-    let none : ready_fault 𝓣 vs ws total f ≡ None = ap₂ (λ v w. ready_fault 𝓣 v w total f) (ev ∙ sym (c.variables.ensures ∙ filled_vs)) (ew ∙ sym (c.weights.ensures ∙ filled_ws)) ∙ c.in-ok-ready.ensures.0 in
-    sum_done cage 𝓣 g.P.Place b total body f (clauses_of b (no_repeat b body)) vs ws total whole ready p none c.write_no_repeat.new.place c.in-ok-write_no_repeat.ensures c.write.new.place
-    (cage_count 𝓣 g.P.Place b total body f vs ws first tested ev ew) c.in-ok-fresh.fresh c.in-ok-fresh.ensures
+    let none : ready_fault 𝓣 vs ws total f ≡ None = ap₂ (λ v w. ready_fault 𝓣 v w total f) (ev ∙ sym (c.variables.ensures ∙ filled_vs)) (ew ∙ sym (c.weights.ensures ∙ filled_ws)) ∙ c.in_ok-ready.ensures.0 in
+    sum_done cage 𝓣 g.P.Place b total body f (clauses_of b (no_repeat b body)) vs ws total whole ready p none c.write_no_repeat.new.place c.in_ok-write_no_repeat.ensures c.write.new.place
+    (cage_count 𝓣 g.P.Place b total body f vs ws first tested ev ew) c.in_ok-fresh.fresh c.in_ok-fresh.ensures

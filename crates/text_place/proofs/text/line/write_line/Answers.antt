@@ -22,8 +22,8 @@ bounds-bytes-end c =
     let e = simp to_z-of_z at c.write_literal-end.ensures.end in
     omega (arith, c.write_literal-end.auto.bytes)
 
-pub overflow-add-end : goal.overflow-add-end
-overflow-add-end c =
+pub overflow_add-end : goal.overflow_add-end
+overflow_add-end c =
     let f : SFits w32 (get_or c.args.clause.now c.loop-literal.literal-index (pos 0)) = search rules in
     let r = upto_room c.args.bytes.now c.args.at c.args.clause.now c.requires.room
     c.loop-literal.literal-index c.loop-literal.end c.loop-literal.bytes c.loop-literal.invariant c.loop-literal-test.true in
@@ -46,8 +46,8 @@ bounds-bytes-end-2 c =
           c.loop-literal.literal-index c.loop-literal.end c.loop-literal.bytes c.loop-literal.invariant,
     )
 
-pub overflow-add-bytes : goal.overflow-add-bytes
-overflow-add-bytes c =
+pub overflow_add-bytes : goal.overflow_add-bytes
+overflow_add-bytes c =
     let e = upto_end c.args.bytes.now c.args.at c.args.clause.now c.requires.room
     c.loop-literal.literal-index c.loop-literal.end c.loop-literal.bytes c.loop-literal.invariant in
     search rules

@@ -33,8 +33,8 @@ bounds-bytes-last t c =
     let p = length_push (decimal (n / 10)) (48 + n % 10) in
     omega (arith, c.write_number-last.ensures.end, c.write_number-last.auto.bytes)
 
-pub overflow-add-result-2 : goal.overflow-add-result-2
-overflow-add-result-2 t c =
+pub overflow_add-result-2 : goal.overflow_add-result-2
+overflow_add-result-2 t c =
     let n = c.args.n in
     let f = c.ranges.n.fits in
     let l = ap length (decimal_step n c.if-n-lt10.false (omega arith)) in

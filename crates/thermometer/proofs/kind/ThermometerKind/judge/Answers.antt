@@ -13,8 +13,8 @@ rises-requires c =
     let b = c.args.board.now in
     let body = c.args.body.now in
     let g = c.args.grid.now in
-    let G = grid_good b g (sym c.in-ok-check_grid.ensures) in
-    let later = (both_none (length_fault 2 (side b) body) _ (sym c.in-ok-test.ensures)).1 in
+    let G = grid_good b g (sym c.in_ok-check_grid.ensures) in
+    let later = (both_none (length_fault 2 (side b) body) _ (sym c.in_ok-test.ensures)).1 in
     let on = cells_on b body (both_none (cell_fault b body) _ later).0 in
     let n = G.size in
     record {

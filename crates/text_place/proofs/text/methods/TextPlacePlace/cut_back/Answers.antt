@@ -7,8 +7,8 @@ use Rattle.text_place.proofs.text.methods.TextPlacePlace.cut_back.Goals as goal
 pub returns-then-m-self : goal.returns-then-m-self
 returns-then-m-self c = let p = c.args.self.now in back_none text p.bytes.now p.used p.count (kept_text p) c.args.m c.if-m-self.true
 
-pub invariant-of-self : goal.invariant-of-self
-invariant-of-self c =
+pub invariant_of-self : goal.invariant_of-self
+invariant_of-self c =
     let p = c.args.self.now in
     (back_some text p.bytes.now p.used p.count (kept_text p) c.args.m c.last_lines-start.result c.replace-bytes.result.now c.fill.new.self
     c.if-m-self.false (ap (λ x. x.now) c.replace-bytes.ensures.value) c.last_lines-start.ensures.most c.last_lines-start.ensures.least

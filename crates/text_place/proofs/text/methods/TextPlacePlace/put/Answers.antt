@@ -7,15 +7,15 @@ use Rattle.spelling.proofs.Texts.{text}
 use Rattle.text_place.proofs.Kept.{kept_text}
 use Rattle.text_place.proofs.text.methods.TextPlacePlace.put.Goals as goal
 
-pub overflow-add-self-2 : goal.overflow-add-self-2
-overflow-add-self-2 c = let p = c.args.self.now in let l = count_le text p.bytes.now p.used p.count (kept_text p) in search rules
+pub overflow_add-self-2 : goal.overflow_add-self-2
+overflow_add-self-2 c = let p = c.args.self.now in let l = count_le text p.bytes.now p.used p.count (kept_text p) in search rules
 
-pub invariant-of-self : goal.invariant-of-self
-invariant-of-self c =
+pub invariant_of-self : goal.invariant_of-self
+invariant_of-self c =
     let p = c.args.self.now in
     let clause = c.args.clause.now in
     let done = put text p.bytes.now p.used p.count (kept_text p) clause c.line_len-charge.result c.write_line.new.bytes
-    (valid_from clause c.in-ok-check_clause.ensures) c.line_len-charge.ensures (omega arith)
+    (valid_from clause c.in_ok-check_clause.ensures) c.line_len-charge.ensures (omega arith)
     (c.write_line.ensures ∙ ap (λ r. overwritten r.now p.used (text_line clause)) c.replace-bytes.ensures.value) in
     ghosts text _ _ _ done.0
 
@@ -23,7 +23,7 @@ pub returns : goal.returns
 returns c =
     let p = c.args.self.now in
     let clause = c.args.clause.now in
-    let none = c.in-ok-check_clause.ensures in
+    let none = c.in_ok-check_clause.ensures in
     let ok = valid_from clause none in
     let done = put text p.bytes.now p.used p.count (kept_text p) clause c.line_len-charge.result c.write_line.new.bytes
     ok c.line_len-charge.ensures (omega arith)

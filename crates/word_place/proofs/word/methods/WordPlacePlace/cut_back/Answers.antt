@@ -7,8 +7,8 @@ use Rattle.word_place.proofs.word.methods.WordPlacePlace.cut_back.Goals as goal
 pub returns-then-m-self : goal.returns-then-m-self
 returns-then-m-self c = let p = c.args.self.now in back_none words p.words.now p.used p.count (kept_words p) c.args.m c.if-m-self.true
 
-pub invariant-of-self : goal.invariant-of-self
-invariant-of-self c =
+pub invariant_of-self : goal.invariant_of-self
+invariant_of-self c =
     let p = c.args.self.now in
     (back_some words p.words.now p.used p.count (kept_words p) c.args.m c.last_lines-start.result c.replace-words.result.now c.fill.new.self
     c.if-m-self.false (ap (λ x. x.now) c.replace-words.ensures.value) c.last_lines-start.ensures.most c.last_lines-start.ensures.least

@@ -6,16 +6,16 @@ use Rattle.spelling.proofs.Words.{words, words_put}
 use Rattle.word_place.proofs.Kept.{kept_words}
 use Rattle.word_place.proofs.word.methods.WordPlacePlace.put.Goals as goal
 
-pub overflow-add-self-2 : goal.overflow-add-self-2
-overflow-add-self-2 c = let p = c.args.self.now in let l = count_le words p.words.now p.used p.count (kept_words p) in search rules
+pub overflow_add-self-2 : goal.overflow_add-self-2
+overflow_add-self-2 c = let p = c.args.self.now in let l = count_le words p.words.now p.used p.count (kept_words p) in search rules
 
-pub invariant-of-self : goal.invariant-of-self
-invariant-of-self c =
+pub invariant_of-self : goal.invariant_of-self
+invariant_of-self c =
     let p = c.args.self.now in
     let clause = c.args.clause.now in
     let n = p.used + length clause - p.used in
     let done = words_put p.words.now p.used p.count (kept_words p) clause n c.replace-words.result.now c.copy_from_slice.new.self
-    (valid_from clause c.in-ok-check_clause.ensures) (omega arith) (omega arith)
+    (valid_from clause c.in_ok-check_clause.ensures) (omega arith) (omega arith)
     (ap (λ x. x.now) c.replace-words.ensures.value) c.copy_from_slice.ensures.after in
     ghosts words _ _ _ done.0
 
@@ -24,7 +24,7 @@ returns c =
     let p = c.args.self.now in
     let clause = c.args.clause.now in
     let n = p.used + length clause - p.used in
-    let none = c.in-ok-check_clause.ensures in
+    let none = c.in_ok-check_clause.ensures in
     let ok = valid_from clause none in
     let done = words_put p.words.now p.used p.count (kept_words p) clause n c.replace-words.result.now c.copy_from_slice.new.self
     ok (omega arith) (omega arith) (ap (λ x. x.now) c.replace-words.ensures.value) c.copy_from_slice.ensures.after in
