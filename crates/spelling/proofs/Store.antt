@@ -41,15 +41,6 @@ module _ {X : Type 0} (s : Spelling X) where
     pub counted : count ≡ length (s.read (take used xs))
     pub blank : drop used xs ≡ replicate (length xs - used) s.blank
 
-  -- the same, as a function that changes the place owes its ghost fields
-  abbrev pub Ghosts : List X → ℕ → ℕ → Type 0
-  Ghosts xs used count =
-      (used ≤ length xs) × ((every valid (s.read (take used xs)) ≡ true) × ((spelled (s.read (take used xs)) ≡ take used xs) ×
-      ((count ≡ length (s.read (take used xs))) × ((drop used xs ≡ replicate (length xs - used) s.blank) × Unit {0}))))
-
-  pub ghosts : (xs : List X) (used count : ℕ) → Kept xs used count → Ghosts xs used count
-  ghosts xs used count k = (k.fits, (k.sound, (k.written, (k.counted, (k.blank, tt)))))
-
   pub length_spelled : (cs : List (List ℤ)) → length (spelled cs) ≡ sum_by s.charge cs
   length_spelled [] = refl
   length_spelled (c ∷ cs) = omega (arith, length-append (line c) (spelled cs), length_spelled cs, s.charged c, sum_by-cons s.charge c cs)
@@ -168,10 +159,10 @@ module _ {X : Type 0} (s : Spelling X) where
         ((k : ℕ) → k < start → count - m < count_by s.ends (drop k (take (used - 0) us))) →
         zs ≡ replicate (length (take (used - start) (drop start us))) s.blank →
         let ys = put_mid start (used - start) us zs in
-        Ghosts ys start m × Back m (s.read (take start ys)) (length ys - start)
+        Kept ys start m × Back m (s.read (take start ys)) (length ys - start)
     back_some m start us zs l u most least d =
         let size : used - 0 ≡ used = omega arith in
         let begin = begins m (take (used - 0) us) start (omega arith) (ap₂ take size u) most least in
         let ys = put_mid start (used - start) us zs in
         let done = cut m start us zs (omega arith) u begin d in
-        (ghosts ys start m done.0, record { holds = done.1; room = freed m ys start m done.0 done.1 done.2 })
+        (done.0, record { holds = done.1; room = freed m ys start m done.0 done.1 done.2 })

@@ -10,7 +10,11 @@ bounds-self-self c =
 pub invariant_of-self : goal.invariant_of-self
 invariant_of-self c =
     let l = c.args.self.now in
-    (l.space, (omega (arith, c.requires, queue_length l.variables l.start l.end l.ordered (omega (arith, l.fits, l.space))), (l.fits, tt)))
+    record {
+      space = l.space;
+      ordered = omega (arith, c.requires, queue_length l.variables l.start l.end l.ordered (omega (arith, l.fits, l.space)));
+      fits = l.fits;
+    }
 
 pub returns : goal.returns
 returns c =

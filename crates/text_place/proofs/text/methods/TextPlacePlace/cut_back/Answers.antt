@@ -10,9 +10,10 @@ returns-then-m-self c = let p = c.args.self.now in back_none text p.bytes.now p.
 pub invariant_of-self : goal.invariant_of-self
 invariant_of-self c =
     let p = c.args.self.now in
-    (back_some text p.bytes.now p.used p.count (kept_text p) c.args.m c.last_lines-start.result c.replace-bytes.result.now c.fill.new.self
+    let kept = (back_some text p.bytes.now p.used p.count (kept_text p) c.args.m c.last_lines-start.result c.replace-bytes.result.now c.fill.new.self
     c.if-m-self.false (ap (λ x. x.now) c.replace-bytes.ensures.value) c.last_lines-start.ensures.most c.last_lines-start.ensures.least
-    (c.fill.ensures.after (λ y e. e))).0
+    (c.fill.ensures.after (λ y e. e))).0 in
+    record { fits = kept.fits; sound = kept.sound; written = kept.written; counted = kept.counted; blank = kept.blank }
 
 pub returns : goal.returns
 returns c =

@@ -2,7 +2,7 @@ use Rattle.std.proofs.Common.{ap, ◌∙◌, arith, rules}
 use Rattle.spelling.specs.Spelling.{overwritten}
 use Rattle.spelling.specs.Text.{text_line, text_charge}
 use Rattle.places.proofs.Clauses.{no_put_fault, reported, valid_from}
-use Rattle.spelling.proofs.Store.{ghosts, count_le, put}
+use Rattle.spelling.proofs.Store.{count_le, put}
 use Rattle.spelling.proofs.Texts.{text}
 use Rattle.text_place.proofs.Kept.{kept_text}
 use Rattle.text_place.proofs.text.methods.TextPlacePlace.put.Goals as goal
@@ -17,7 +17,8 @@ invariant_of-self c =
     let done = put text p.bytes.now p.used p.count (kept_text p) clause c.line_len-charge.result c.write_line.new.bytes
     (valid_from clause c.in_ok-check_clause.ensures) c.line_len-charge.ensures (omega arith)
     (c.write_line.ensures ∙ ap (λ r. overwritten r.now p.used (text_line clause)) c.replace-bytes.ensures.value) in
-    ghosts text _ _ _ done.0
+    let kept = done.0 in
+    record { fits = kept.fits; sound = kept.sound; written = kept.written; counted = kept.counted; blank = kept.blank }
 
 pub returns : goal.returns
 returns c =

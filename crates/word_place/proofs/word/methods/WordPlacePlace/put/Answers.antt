@@ -1,7 +1,7 @@
 use Rattle.std.proofs.Common.{◌+◌, ◌-◌, length, ap, arith, rules}
 use Rattle.spelling.specs.Word.{word_charge}
 use Rattle.places.proofs.Clauses.{no_put_fault, reported, valid_from}
-use Rattle.spelling.proofs.Store.{ghosts, count_le}
+use Rattle.spelling.proofs.Store.{count_le}
 use Rattle.spelling.proofs.Words.{words, words_put}
 use Rattle.word_place.proofs.Kept.{kept_words}
 use Rattle.word_place.proofs.word.methods.WordPlacePlace.put.Goals as goal
@@ -17,7 +17,8 @@ invariant_of-self c =
     let done = words_put p.words.now p.used p.count (kept_words p) clause n c.replace-words.result.now c.copy_from_slice.new.self
     (valid_from clause c.in_ok-check_clause.ensures) (omega arith) (omega arith)
     (ap (λ x. x.now) c.replace-words.ensures.value) c.copy_from_slice.ensures.after in
-    ghosts words _ _ _ done.0
+    let kept = done.0 in
+    record { fits = kept.fits; sound = kept.sound; written = kept.written; counted = kept.counted; blank = kept.blank }
 
 pub returns : goal.returns
 returns c =
