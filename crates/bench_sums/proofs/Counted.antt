@@ -1,5 +1,5 @@
 -- What a totaller's answer means for an empty place of words.
-use Rattle.std.proofs.Common.{◌≡◌, ℕ, ◌≤◌, Bool, true, false, cond, leb, List, [], ◌++◌, length, ℤ, Some, None, Ok, Err, sum_by, Option, sym, refl, ap, ◌∙◌, ap₂, arith}
+use Rattle.std.proofs.Common.{◌≡◌, ℕ, Bool, true, false, cond, leb, List, [], ◌++◌, length, ℤ, Some, None, Ok, Err, sum_by, Option, sym, refl, ap, ◌∙◌, arith}
 use Rattle.std.proofs.lemmas.Bool.{cond-true, le-leb}
 use Rattle.spelling.specs.Word.{spelled_words, word_charge}
 use Rattle.places.specs.declared.fault.PlaceFault.{PlaceFault}

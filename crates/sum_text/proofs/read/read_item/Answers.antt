@@ -7,9 +7,9 @@ pub returns : goal.returns
 returns c =
     let front = c.in_ok-variable.variable in
     let back = c.in_ok-variable.weight in
-    let one = number_is 32 front.now c.parse.result c.in_ok-variable-2.variable c.parse.ensures.value.0 (sym c.ok.ensures.value ∙ c.in_ok-variable-2.ensures.ok-part) in
-    let two = number_is 8 back.now c.parse-2.result c.in_ok-weight.weight c.parse-2.ensures.value.0 (sym c.ok-2.ensures.value ∙ c.in_ok-weight.ensures.ok-part) in
-    item_is c.args.word.now c.split_once.result front back c.split_once.ensures.cases c.in_ok-variable.ensures.ok-part _ _ one two
+    let one = number_is 32 front.now c.parse.result c.in_ok-variable-2.variable c.parse.ensures.value.0 (sym c.ok.ensures.value ∙ c.in_ok-variable-2.ensures.ok_part) in
+    let two = number_is 8 back.now c.parse-2.result c.in_ok-weight.weight c.parse-2.ensures.value.0 (sym c.ok-2.ensures.value ∙ c.in_ok-weight.ensures.ok_part) in
+    item_is c.args.word.now c.split_once.result front back c.split_once.ensures.cases c.in_ok-variable.ensures.ok_part _ _ one two
 
 pub returns-in_err-variable : goal.returns-in_err-variable
 returns-in_err-variable c =
@@ -24,7 +24,7 @@ returns-in_err-variable-2 c =
     (λ none v k item.
     no_number 32 front.now c.parse.result c.parse.ensures.value.0 (sym c.ok.ensures.value ∙ none) v
     (parts c.args.word.now c.split_once.result front c.in_ok-variable.weight c.split_once.ensures.cases
-    c.in_ok-variable.ensures.ok-part v k item).0)
+    c.in_ok-variable.ensures.ok_part v k item).0)
 
 pub returns-in_err-weight : goal.returns-in_err-weight
 returns-in_err-weight c =
@@ -34,4 +34,4 @@ returns-in_err-weight c =
     (λ none v k item.
     no_number 8 back.now c.parse-2.result c.parse-2.ensures.value.0 (sym c.ok-2.ensures.value ∙ none) k
     (parts c.args.word.now c.split_once.result c.in_ok-variable.variable back c.split_once.ensures.cases
-    c.in_ok-variable.ensures.ok-part v k item).1)
+    c.in_ok-variable.ensures.ok_part v k item).1)

@@ -9,7 +9,7 @@ use Rattle.draft.proofs.state.Draft.open.Goals as goal
 
 pub returns-then-count-gt0 : goal.returns-then-count-gt0
 returns-then-count-gt0 g c =
-    let found : board_of c.args.side ≡ Some c.in_ok-board.board = sym c.of_side.ensures ∙ c.in_ok-board.ensures.ok-part in
+    let found : board_of c.args.side ≡ Some c.in_ok-board.board = sym c.of_side.ensures ∙ c.in_ok-board.ensures.ok_part in
     let fault = not_empty g.P.Place c.args.side c.args.place.now _ found (omega arith) in
     record { fault = fault; refusal = reported g.P.Place c.args.side c.args.place.now _ fault; opened = (refl, refl) }
 
@@ -17,7 +17,7 @@ pub returns-in_err-written : goal.returns-in_err-written
 returns-in_err-written g c =
     let p = c.args.place.now in
     let b = c.in_ok-board.board in
-    let found : board_of c.args.side ≡ Some b = sym c.of_side.ensures ∙ c.in_ok-board.ensures.ok-part in
+    let found : board_of c.args.side ≡ Some b = sym c.of_side.ensures ∙ c.in_ok-board.ensures.ok_part in
     let was = c.in_err-written.was in
     let w = subst (λ o. Writes g.P.Place (base_clauses b) p c.write_base-written.new.place (result_err o)) was c.write_base-written.ensures in
     elim c.if-is_err.branch [
@@ -29,13 +29,13 @@ returns-in_err-written g c =
     ]
 
 pub invariant_of-result : goal.invariant_of-result
-invariant_of-result g c = let l = mul-le-mul c.cells.ensures.bound c.side.ensures.bound.1 in (omega arith, tt)
+invariant_of-result g c = let l = mul-le-mul c.cells.ensures.bound c.side.ensures.bound.1 in omega arith
 
 pub returns : goal.returns
 returns g c =
     let p = c.args.place.now in
     let b = c.in_ok-board.board in
-    let found : board_of c.args.side ≡ Some b = sym c.of_side.ensures ∙ c.in_ok-board.ensures.ok-part in
+    let found : board_of c.args.side ≡ Some b = sym c.of_side.ensures ∙ c.in_ok-board.ensures.ok_part in
     let was = c.in_ok-written.was in
     let w = subst (λ o. Writes g.P.Place (base_clauses b) p c.write_base-written.new.place (result_err o)) was c.write_base-written.ensures in
     elim c.if-is_err.branch [
