@@ -1,3 +1,2 @@
 pub mod Splits
-mod Says
 mod Encodings
