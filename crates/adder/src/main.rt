@@ -1,4 +1,6 @@
 // The program `adder`: writes, by an adder network, that one of two items is true and not both.
+#![tactic(auto)]
+
 use adder_network::AdderNetwork;
 use std::alloc::Global;
 use std::io::Write;

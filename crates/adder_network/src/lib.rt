@@ -1,4 +1,6 @@
 // The adder network: a totaller that adds the weights in binary.
+#![tactic(auto)]
+
 mod adder;
 mod items;
 mod line;

@@ -1,4 +1,6 @@
 // One sum written to a buffer of words, for a program of another language that measures how long it takes.
+#![tactic(auto)]
+
 ghost use Rattle.std.specs.Prelude.{◌≡◌, length};
 ghost use Rattle.totals.specs.Adders.{adders};
 ghost use Rattle.totals.specs.Running.{running};

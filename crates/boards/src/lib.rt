@@ -1,4 +1,6 @@
 // Boards: their rows, columns and boxes, and what every draft says of them.
+#![tactic(auto)]
+
 mod base;
 mod board;
 mod cells;

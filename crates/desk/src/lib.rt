@@ -1,4 +1,6 @@
 // The desk: draft texts in, clause texts out.
+#![tactic(auto)]
+
 mod encoding;
 mod fault;
 mod read;

@@ -1,4 +1,6 @@
 // Drafts: a puzzle in the making, as clauses in a place.
+#![tactic(auto)]
+
 mod fault;
 mod state;
 

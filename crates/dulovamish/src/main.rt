@@ -1,4 +1,6 @@
 // The program `dulovamish`: writes a draft text as a clause text for SAT solvers.
+#![tactic(auto)]
+
 use desk::{EncodeFault, Reason, encode, statement_word};
 use draft::DraftFault;
 use std::alloc::{AllocError, Global};

@@ -1,4 +1,6 @@
 // Worked examples, all under one proof.
+#![tactic(auto)]
+
 ghost use Rattle.std.specs.Prelude.{◌≡◌, length};
 ghost use Rattle.examples.specs.Examples.{Examples, examples};
 

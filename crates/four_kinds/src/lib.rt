@@ -1,4 +1,6 @@
 // The set of the four kinds that every draft has.
+#![tactic(auto)]
+
 ghost use Rattle.std.specs.Prelude.{◌≡◌};
 ghost use Rattle.meanings.specs.Four.{four};
 ghost use Rattle.meanings.proofs.Sets.{four_usable};

@@ -1,4 +1,6 @@
 // Kinds of part, and sets of them.
+#![tactic(auto)]
+
 mod kind;
 mod set;
 

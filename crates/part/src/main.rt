@@ -1,4 +1,6 @@
 // The program `part`: writes an empty board with one part as a clause text, so that a kind can be tried alone.
+#![tactic(auto)]
+
 use adder_network::AdderNetwork;
 use givens::Givens;
 use part_text::{KindName, Part, PartTextFault, WriteFault, read_part, write_part};

@@ -1,5 +1,5 @@
 -- What the place's and the kind's answers mean for a text.
-use Rattle.std.proofs.Common.{◌≡◌, ℕ, ◌+◌, ◌-◌, ◌^◌, ◌<◌, ◌≤◌, Bool, true, false, cond, leb, List, [], ◌++◌, length, IsErrAnd, Some, None, Ok, Err, sum_by, Option, Result, Vec, sym, refl, ap, ◌∙◌, subst, ap₂, inl, inr, arith}
+use Rattle.std.proofs.Common.{◌≡◌, ℕ, ◌+◌, ◌-◌, ◌^◌, ◌<◌, ◌≤◌, Bool, true, false, cond, leb, List, [], ◌++◌, length, IsErrAnd, Some, None, Ok, Err, sum_by, Option, Result, Vec, sym, refl, ap, ◌∙◌, subst, inl, inr, arith}
 use Rattle.std.specs.Option.{option_or}
 use Rattle.std.specs.declared.alloc.Global.{Global}
 use Rattle.std.proofs.lemmas.Bool.{cases_Bool, cond-true, le-leb, leb-true, leb-false}
@@ -13,7 +13,6 @@ use Rattle.text_place.specs.declared.text.TextPlace.{TextPlace}
 use Rattle.text_place.specs.Meaning.{free_text, held_text}
 use Rattle.totals.specs.Totaller.{Totaller}
 use Rattle.boards.specs.declared.board.Board.{Board}
-use Rattle.boards.specs.Atoms.{cell_variables}
 use Rattle.parts.specs.declared.fault.KindFault.{KindFault}
 use Rattle.parts.specs.Tests.{first_number_fault}
 use Rattle.meanings.specs.Kind.{Kind, Lawful}

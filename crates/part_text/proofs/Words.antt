@@ -1,5 +1,5 @@
 -- Words, read one by one.
-use Rattle.std.proofs.Common.{◌≡◌, ℕ, ◌+◌, ◌-◌, ◌<◌, ◌≤◌, false, List, [], ◌∷◌, map, length, get_or, take, drop, Some, None, vec_items, codes, sym, refl, ap, ◌∙◌, subst, inl, inr, arith, Bor, below_more}
+use Rattle.std.proofs.Common.{◌≡◌, ℕ, ◌+◌, ◌-◌, ◌<◌, ◌≤◌, false, List, [], ◌∷◌, map, length, get_or, take, drop, Some, None, vec_items, codes, sym, ◌∙◌, subst, inl, inr, arith, Bor, below_more}
 use lib.ListN.{get_or-map}
 use Rattle.std.specs.Str.{bytes_eq}
 use Rattle.std.proofs.lemmas.Slice.Eq.{bytes_eq-Decides}

@@ -1,4 +1,6 @@
 // Boards with one part, as text: read from words, and written as a clause text by any totaller and any kind.
+#![tactic(auto)]
+
 mod fault;
 mod part;
 mod read;

@@ -1,4 +1,6 @@
 // Parts of a draft: what can be wrong with one, and the tests that kinds of part share.
+#![tactic(auto)]
+
 mod cells;
 mod fault;
 mod grid;

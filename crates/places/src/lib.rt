@@ -1,4 +1,6 @@
 // Places: stores of clauses. What every place promises, and what the places over buffers share.
+#![tactic(auto)]
+
 mod clause;
 mod fault;
 mod place;

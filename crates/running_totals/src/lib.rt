@@ -1,4 +1,6 @@
 // Running totals: a totaller that keeps every sum of the first items, up to the target.
+#![tactic(auto)]
+
 mod running;
 mod table;
 

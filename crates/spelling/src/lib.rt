@@ -1,1 +1,3 @@
+#![tactic(auto)]
+
 // Clauses written as words and as text, and read back. Definitions and lemmas only.

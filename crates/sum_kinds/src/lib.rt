@@ -1,4 +1,6 @@
 // Cages and arrows: kinds of part that say what the digits of some cells add to.
+#![tactic(auto)]
+
 mod arrow;
 mod cage;
 mod fill;

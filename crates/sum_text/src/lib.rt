@@ -1,4 +1,6 @@
 // Sums as text: read from words, and written as a clause text by any totaller.
+#![tactic(auto)]
+
 mod fault;
 mod read;
 mod sum;

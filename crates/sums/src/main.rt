@@ -1,4 +1,6 @@
 // The program `sums`: writes one sum as a clause text, so that a totaller can be tried alone.
+#![tactic(auto)]
+
 use adder_network::AdderNetwork;
 use places::Refusal;
 use running_totals::RunningTotals;

@@ -1,4 +1,6 @@
 // Thermometers: from cell to cell, beginning at the bulb, the digits rise.
+#![tactic(auto)]
+
 mod kind;
 mod steps;
 

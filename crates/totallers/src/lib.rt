@@ -1,4 +1,6 @@
 // Totallers: ways to write "the weights of the true items add to the target" as clauses.
+#![tactic(auto)]
+
 mod fault;
 mod items;
 mod totaller;

@@ -1,4 +1,4 @@
-use Rattle.std.proofs.Common.{◌≡◌, ◌+◌, ◌*◌, ◌≤◌, length, sym, ap, ◌∙◌, ap₂, mul-le-mul, arith, rules}
+use Rattle.std.proofs.Common.{◌≡◌, ◌+◌, ◌*◌, ◌≤◌, length, ap, ◌∙◌, ap₂, mul-le-mul, arith, rules}
 use Rattle.boards.specs.Atoms.{cell_variables}
 use Rattle.sum_text.specs.Writing.{cnf}
 use Rattle.part_text.proofs.Parts.{base_failed, base_fits, failure, few_variables, handed_on, handed_on_base, success}
