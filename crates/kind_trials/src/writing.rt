@@ -56,7 +56,7 @@ fn parts_without_a_sum_are_written(rt: HostRuntime) {
         ),
         Some(Ok(0))
     );
-    assert!(rt; place.used_bytes() == b"1 0\n64 0\n");
+    assert!(rt; place.used_bytes() == b"1 0\n64 0\n".as_slice());
     place.cut_back(0);
     assert_eq!(rt;
         Five::write::<AdderNetwork, TextPlace<'_>>(3, &board, 0, &[0, 1], 65, &mut place),
@@ -64,14 +64,14 @@ fn parts_without_a_sum_are_written(rt: HostRuntime) {
     );
     assert!(rt;
         place.used_bytes()
-            == b"-1 -5 0\n-2 -5 0\n-2 -6 0\n-3 -5 0\n-3 -6 0\n-3 -7 0\n-4 -5 0\n-4 -6 0\n-4 -7 0\n-4 -8 0\n"
+            == b"-1 -5 0\n-2 -5 0\n-2 -6 0\n-3 -5 0\n-3 -6 0\n-3 -7 0\n-4 -5 0\n-4 -6 0\n-4 -7 0\n-4 -8 0\n".as_slice()
     );
     place.cut_back(0);
     assert_eq!(rt;
         Five::write::<AdderNetwork, TextPlace<'_>>(9, &board, 0, &[0, 5], 65, &mut place),
         Some(Ok(0))
     );
-    assert!(rt; place.used_bytes() == b"-1 21 0\n-2 22 0\n-3 23 0\n-4 24 0\n");
+    assert!(rt; place.used_bytes() == b"-1 21 0\n-2 22 0\n-3 23 0\n-4 24 0\n".as_slice());
 }
 
 #[test]
@@ -101,7 +101,7 @@ fn a_refused_part_leaves_the_place(rt: HostRuntime) -> Result<(), Fail> {
         )),
         Some((23, 72))
     );
-    assert!(rt; place.used_bytes() == b"7 0\n");
+    assert!(rt; place.used_bytes() == b"7 0\n".as_slice());
     Ok(())
 }
 

@@ -11,7 +11,7 @@ fn an_empty_board_is_opened(rt: HostRuntime) -> Result<(), Fail> {
     assert_eq!(rt; draft.counts(&place), (64, 400));
     let mut heading = [0; 13];
     assert_eq!(rt; draft.heading(&place, &mut heading), Ok(13));
-    assert!(rt; &heading[..] == b"p cnf 64 400\n");
+    assert!(rt; &heading[..] == b"p cnf 64 400\n".as_slice());
     let mut short = [1; 12];
     assert_eq!(rt;
         draft.heading(&place, &mut short),

@@ -25,10 +25,10 @@ fn text_is_put_and_cut(rt: HostRuntime) -> Result<(), Fail> {
     let mut place = TextPlace::open(&mut buffer);
     place.put(&[-12, 7])?;
     place.put(&[-65_535])?;
-    assert!(rt; place.used_bytes() == b"-12 7 0\n-65535 0\n");
+    assert!(rt; place.used_bytes() == b"-12 7 0\n-65535 0\n".as_slice());
     assert_eq!(rt; place.put(&[1]), Err(PlaceFault::NoSpace { held: 2 }));
     place.cut_back(1);
-    assert!(rt; place.bytes() == b"-12 7 0\n\0\0\0\0\0\0\0\0\0\0\0\0");
+    assert!(rt; place.bytes() == b"-12 7 0\n\0\0\0\0\0\0\0\0\0\0\0\0".as_slice());
     assert_eq!(rt; place.count(), 1);
     Ok(())
 }
@@ -63,7 +63,7 @@ fn faulty_clauses_are_refused(rt: HostRuntime) {
 fn a_heading_fits_or_is_refused(rt: HostRuntime) {
     let mut buffer = [7; 12];
     assert_eq!(rt; write_heading(&mut buffer, 4, 9), Some(10));
-    assert!(rt; &buffer[..] == b"p cnf 4 9\n\x07\x07");
+    assert!(rt; &buffer[..] == b"p cnf 4 9\n\x07\x07".as_slice());
     let mut short = [7; 9];
     assert_eq!(rt; write_heading(&mut short, 4, 9), None);
     assert!(rt; &short[..] == &[7; 9][..]);

@@ -14,7 +14,7 @@ fn running_totals_of_two_items(rt: HostRuntime) {
     assert_eq!(rt; place.count(), 17);
     assert!(rt;
         place.used_bytes()
-            == b"3 0\n-4 0\n-1 -5 0\n1 -5 3 0\n1 5 -3 0\n-1 -6 3 0\n-1 6 -3 0\n1 -6 4 0\n1 6 -4 0\n-2 -7 0\n2 -7 5 0\n2 7 -5 0\n-2 -8 5 0\n-2 8 -5 0\n2 -8 6 0\n2 8 -6 0\n8 0\n"
+            == b"3 0\n-4 0\n-1 -5 0\n1 -5 3 0\n1 5 -3 0\n-1 -6 3 0\n-1 6 -3 0\n1 -6 4 0\n1 6 -4 0\n-2 -7 0\n2 -7 5 0\n2 7 -5 0\n-2 -8 5 0\n-2 8 -5 0\n2 -8 6 0\n2 8 -6 0\n8 0\n".as_slice()
     );
 }
 
