@@ -11,11 +11,11 @@ board_same a b h w = λ i. record {
   width = w i;
   tall = is_prop→PathP (λ k. 1 ≤ h k) (λ k. le_prop) a.tall b.tall i;
   wide = is_prop→PathP (λ k. 1 ≤ w k) (λ k. le_prop) a.wide b.wide i;
-  small = is_prop→PathP (λ k. h k * w k ≤ 15) (λ k. le_prop) a.small b.small i;
+  small = is_prop→PathP (λ k. h k * w k ≤ 16) (λ k. le_prop) a.small b.small i;
 }
 
 pub side_some : (b : Board) → 1 ≤ side b
 side_some b = mul-le-mul b.tall b.wide
 
-pub cells_small : (b : Board) → cells b ≤ 225
+pub cells_small : (b : Board) → cells b ≤ 256
 cells_small b = mul-le-mul b.small b.small

@@ -139,7 +139,7 @@ module _ (b : Board) where
   digits_valid c l =
       let n = length_digits c 1 (side b) in
       let h : 1 ≤ side b = mul-le-mul b.tall b.wide in
-      let k : c * side b ≤ 255 * 15 = mul-le-mul l b.small in
+      let k : c * side b ≤ 255 * 16 = mul-le-mul l b.small in
       let ds = map (signed N) (some_digit b c) in
       let few : right_length ds ≡ true =
       and_from (leb 1 (length ds)) (leb (length ds) 16) (le-leb 1 (length ds) (omega arith)) (le-leb (length ds) 16 (omega (arith, b.small))) in

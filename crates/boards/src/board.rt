@@ -10,5 +10,5 @@ pub struct Board {
     pub(crate) width: u8,
     ghost tall: { 1 ≤ height },
     ghost wide: { 1 ≤ width },
-    ghost small: { height * width ≤ 15 },
+    ghost small: { height * width ≤ 16 },
 }

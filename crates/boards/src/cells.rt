@@ -18,7 +18,7 @@ struct Mark {
 // The number of the variable that says so.
 fn variable(board: &Board, mark: Mark) -> u16
     requires low { 1 ≤ mark.digit }
-    requires high { mark.digit ≤ 15 }
+    requires high { mark.digit ≤ 16 }
     ensures value { result ≡ number board.now 0 (at mark.cell mark.digit) }
     ensures bound { 1 ≤ result }
 {
@@ -69,7 +69,7 @@ fn write_no_later_digit<P: Place>(
     place: &mut P,
 ) -> Result<(), PlaceFault>
     requires low { 1 ≤ digit }
-    requires high { digit ≤ 15 }
+    requires high { digit ≤ 16 }
     ensures { Writes P.Place (clauses_of board.now (no_later_digit board.now cell digit)) place.old place.new (result_err result) }
 {
     for index in digit..board.side() {
@@ -142,8 +142,8 @@ fn write_not_both<P: Place>(
     second: Mark,
     place: &mut P,
 ) -> Result<(), PlaceFault>
-    requires first { (1 ≤ first.digit) × (first.digit ≤ 15) }
-    requires second { (1 ≤ second.digit) × (second.digit ≤ 15) }
+    requires first { (1 ≤ first.digit) × (first.digit ≤ 16) }
+    requires second { (1 ≤ second.digit) × (second.digit ≤ 16) }
     ensures { Writes P.Place (clauses_of board.now (not_both (at first.cell first.digit) (at second.cell second.digit) ∷ [])) place.old place.new (result_err result) }
 {
     let first = variable(board, first) as i32;

@@ -25,7 +25,7 @@ module _ (b : Board) (p q : ℕ) where
 
   -- one clause as the code puts it
   module _ {P : Type 0} (𝓟 : Ghosts P) (d : ℕ) (low : 1 ≤ d) (x y : ℤ) where
-    pub turn_put : (u v : ℕ) → u ≡ p * side b + d → v ≡ q * side b + d → u ≤ 4080 → v ≤ 4080 → x ≡ neg_ℤ (pos u) → y ≡ pos v → (s t : P) (r : Result Unit PlaceFault) →
+    pub turn_put : (u v : ℕ) → u ≡ p * side b + d → v ≡ q * side b + d → u ≤ 4335 → v ≤ 4335 → x ≡ neg_ℤ (pos u) → y ≡ pos v → (s t : P) (r : Result Unit PlaceFault) →
         result_err r ≡ put_fault 𝓟.charge (x ∷ y ∷ []) (𝓟.held s) (𝓟.free s) → 𝓟.held t ≡ cond (is_ok r) (𝓟.held s ++ (x ∷ y ∷ []) ∷ []) (𝓟.held s) →
         𝓟.free t ≡ cond (is_ok r) (𝓟.free s - 𝓟.charge (x ∷ y ∷ [])) (𝓟.free s) → Writes 𝓟 (turn d) s t (result_err r)
     turn_put u v eu ev hu hv ex ey s t r fault holds room =

@@ -4,7 +4,7 @@ use Rattle.std.proofs.Common.{arith}
 use Rattle.std.specs.List.{range_with_len, AllByRecursion as All}
 use Rattle.std.proofs.ByRecursion.{All-get_or, All-map}
 use Rattle.std.proofs.lemmas.Bool.Decides.{nat_tests}
-use Rattle.formulas.specs.Formula.{Clause, Sized, some_true, under, variable}
+use Rattle.formulas.specs.Formula.{Clause, SizedClause, some_true, under, variable}
 use Rattle.totallers.proofs.Faultless.{both_none}
 use Rattle.boards.specs.declared.board.Board.{Board}
 use Rattle.boards.specs.Board.{cells, side}
@@ -30,7 +30,7 @@ module _ (P : Clause Atom → Type 0) (b : Board) (p q : ℕ) where
 says_same : (b : Board) (p q : ℕ) → p < cells b → q < cells b → Says b (same b p q) (λ g. nat_eq (slice_index g p) (slice_index g q))
 says_same b p q lp lq = record {
   contained = same_in (λ c. All (λ l. Inside b 0 (variable l)) c) b p q (λ d i. omega arith);
-  sized = same_in Sized b p q (λ d i. omega arith);
+  sized = same_in SizedClause b p q (λ d i. omega arith);
   means = λ g G fs.
       let Ok : Clause Atom → Type 0 = λ c. some_true (under (given g fs)) c ≡ true in (
         λ h. let k = same_out Ok b p q h (slice_index g p) (digit_at b g G p lp) in grind (arith, nat_tests),

@@ -64,7 +64,7 @@ pub(crate) fn write_digits<P: Place>(
     first: u32,
     place: &mut P,
 ) -> Result<(), PlaceFault>
-    requires few { length body.now ≤ 225 }
+    requires few { length body.now ≤ 256 }
     requires characters { All (λ ch. meaning.fitting board.now ch ≡ true) body.now }
     ensures { Writes P.Place (clauses_from board.now first (meaning.stated 0 body.now)) place.old place.new (result_err result) }
 {

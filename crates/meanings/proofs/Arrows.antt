@@ -19,7 +19,7 @@ use Rattle.meanings.specs.Kind.{Lawful}
 use Rattle.meanings.specs.Sum.{cell_items, cell_weights, digit_sum}
 use Rattle.meanings.specs.Arrow.{arrow, arrow_items, arrow_weights, circle, shaft}
 use Rattle.meanings.proofs.Faults.{cells_on, length_between}
-use Rattle.meanings.proofs.Sums.{digits_inside, fresh_fit, hot, items_inside, items_length, none_counted, one_counted, sum_sound, taken, total_both, total_cell, total_digits, weights_length, weights_small}
+use Rattle.meanings.proofs.Sums.{digits_fit, digits_inside, fresh_fit, hot, items_inside, items_length, none_counted, one_counted, sum_sound, taken, total_both, total_cell, total_digits, weights_length, weights_small}
 
 module _ (b : Board) (body : List ℕ) where
   -- what a digit in the circle weighs
@@ -44,9 +44,9 @@ module _ (b : Board) (body : List ℕ) where
         length-map-range_with_len lacks 1 (side b - 1),
       )
 
-  pub arrow_weights_small : All Weight (arrow_weights b body)
-  arrow_weights_small =
-      All-append Weight (cell_weights b (shaft body)) _ (weights_small b (shaft body))
+  pub arrow_weights_small : side b ≤ 15 → All Weight (arrow_weights b body)
+  arrow_weights_small small =
+      All-append Weight (cell_weights b (shaft body)) _ (weights_small b small (shaft body))
       (All-map Weight lacks (range_with_len 1 (side b - 1)) (all_counting_in _ 1 (side b - 1) (λ d low high. omega (arith, b.small))))
 
   module _ (some : 1 ≤ length body) (on : All (λ c. c < cells b) body) where
@@ -89,12 +89,12 @@ arrow_lawful = record {
       let ws = arrow_weights b body in
       sum_sound 𝓣 b (arrow_items b body) ws (side b) (λ g. eqb (digit_sum g (shaft body)) (get_or g (circle body) 0))
       (arrow_items_inside b body (omega arith) on) (arrow_items_length b body ∙ sym (arrow_weights_length b body))
-      (T.sound ws (side b) (arrow_weights_small b body) (taken 𝓣 ws (side b) f ready))
+      (T.sound ws (side b) (arrow_weights_small b body (digits_fit 𝓣 b ws (side b) f ready)) (taken 𝓣 b ws (side b) f ready))
       (λ g G.
       let d = digit_at b g G (circle body) (circle_on b body (omega arith) on) in
       let e = total_arrow b body (omega arith) on g G in (
         λ h. eq-eqb (digit_sum g (shaft body)) (get_or g (circle body) 0) (omega arith),
         λ h. let q = eqb-true (digit_sum g (shaft body)) (get_or g (circle body) 0) h in omega arith,
       ));
-  fits = λ 𝓣 b total body f ready some. fresh_fit 𝓣 (arrow_weights b body) (side b) f ready some;
+  fits = λ 𝓣 b total body f ready some. fresh_fit 𝓣 b (arrow_weights b body) (side b) f ready some;
 }

@@ -5,7 +5,7 @@ use Rattle.std.proofs.ByRecursion.{All-map}
 use Rattle.std.proofs.lemmas.Bool.{eq-eqb, eqb-true}
 use Rattle.std.proofs.lemmas.Bool.Decides.{nat_tests}
 use Rattle.formulas.specs.Clause.{every}
-use Rattle.formulas.specs.Formula.{Clause, some_true, under, variable, Sized}
+use Rattle.formulas.specs.Formula.{Clause, some_true, under, variable, SizedClause}
 use Rattle.formulas.proofs.Lists.{joined_append}
 use Rattle.formulas.proofs.All.{all_counting_in, all_counting_out, all_map_out}
 use Rattle.totallers.proofs.Faultless.{both_none}
@@ -22,7 +22,7 @@ use Rattle.meanings.specs.Sum.{cell_items, cell_weights, digit_sum}
 use Rattle.meanings.specs.Cage.{cage, differ}
 use Rattle.meanings.proofs.Faults.{cells_on}
 use Rattle.meanings.proofs.Says.{Says, says_both, says_nothing, says_with}
-use Rattle.meanings.proofs.Sums.{fresh_fit, items_inside, items_length, sum_sound, taken, total_digits, weights_length, weights_small}
+use Rattle.meanings.proofs.Sums.{digits_fit, fresh_fit, items_inside, items_length, sum_sound, taken, total_digits, weights_length, weights_small}
 
 -- the clauses of two cells, for any property of clauses
 module _ (P : Clause Atom → Type 0) (b : Board) (p q : ℕ) where
@@ -36,7 +36,7 @@ module _ (b : Board) where
   says_not_same : (p q : ℕ) → p < cells b → q < cells b → Says b (not_same b (p, q)) (λ g. not (eqb (get_or g p 0) (get_or g q 0)))
   says_not_same p q lp lq = record {
     contained = not_same_in (λ c. All (λ l. Inside b 0 (variable l)) c) b p q (λ d i. omega arith);
-    sized = not_same_in Sized b p q (λ d i. omega arith);
+    sized = not_same_in SizedClause b p q (λ d i. omega arith);
     means = λ g G fs.
         let Ok : Clause Atom → Type 0 = λ c. some_true (under (given g fs)) c ≡ true in (
           λ h. let k = not_same_out Ok b p q h (get_or g p 0) (digit_at b g G p lp) in grind (arith, nat_tests),
@@ -68,7 +68,7 @@ cage_lawful = record {
       says_with b (no_repeat b body) (λ g. differ g body) (says_no_repeat b body on) _
       (sum_sound 𝓣 b (cell_items b body) ws t (λ g. eqb (digit_sum g body) t)
       (items_inside b body on) (items_length b body ∙ sym (weights_length b body))
-      (T.sound ws t (weights_small b body) (taken 𝓣 ws t f ready))
+      (T.sound ws t (weights_small b (digits_fit 𝓣 b ws t f ready) body) (taken 𝓣 b ws t f ready))
       (λ g G. let e = total_digits b g G body on in (λ h. eq-eqb (digit_sum g body) t (sym e ∙ h), λ h. e ∙ eqb-true (digit_sum g body) t h)));
-  fits = λ 𝓣 b t body f ready some. fresh_fit 𝓣 (cell_weights b body) t f ready some;
+  fits = λ 𝓣 b t body f ready some. fresh_fit 𝓣 b (cell_weights b body) t f ready some;
 }

@@ -4,7 +4,7 @@ use Rattle.std.specs.List.{AllByRecursion as All}
 use Rattle.std.proofs.ByRecursion.{All-append, All-weaker}
 use Rattle.std.proofs.lemmas.List.{nil_from_length}
 use Rattle.std.proofs.lemmas.Bool.{and_from, and_parts}
-use Rattle.formulas.specs.Formula.{Formula, Holds, SpeaksOf, under, variable, Sized}
+use Rattle.formulas.specs.Formula.{Formula, Holds, SpeaksOf, under, variable, SizedClause}
 use Rattle.formulas.proofs.All.{holds_both, holds_left, holds_right}
 use Rattle.boards.specs.declared.board.Board.{Board}
 use Rattle.boards.specs.Atoms.{Atom, at, fresh}
@@ -14,7 +14,7 @@ use Rattle.rules.specs.Rule.{Fulfils, given, Inside, Rule, Sound}
 -- the formula speaks of cells only, and holds just where the grid passes the test, whatever fresh variables are
 pub record Says (b : Board) (f : Formula Atom) (test : List ℕ → Bool) : Type 0 where
   pub contained : SpeaksOf (Inside b 0) f
-  pub sized : All Sized f
+  pub sized : All SizedClause f
   pub means : (g : List ℕ) → Grid b g → (fs : List Bool) → Holds (under (given g fs)) f ↔ (test g ≡ true)
 
 -- what is a cell with a digit is inside, however many fresh variables there are
@@ -33,7 +33,7 @@ module _ (b : Board) where
     pub says_both : (h : Formula Atom) (u : List ℕ → Bool) → Says b h u → Says b (f ++ h) (λ g. t g && u g)
     says_both h u H = record {
       contained = All-append _ f h F.contained H.contained;
-      sized = All-append Sized f h F.sized H.sized;
+      sized = All-append SizedClause f h F.sized H.sized;
       means = λ g G fs.
           let p = under (given g fs) in
           let m = F.means g G fs in
@@ -62,7 +62,7 @@ module _ (b : Board) where
         let m = r.fresh_count in
         record {
           contained = All-append _ f r.formula (speaks_more b m f F.contained) R.contained;
-          sized = All-append Sized f r.formula F.sized R.sized;
+          sized = All-append SizedClause f r.formula F.sized R.sized;
           exact = λ g G clean.
               let X = R.exact g G clean in
               let rest : (fs : List Bool) → Fulfils (record { keeps = λ g. t g && r.keeps g; fresh_count = m; formula = f ++ r.formula }) g fs → Fulfils r g fs

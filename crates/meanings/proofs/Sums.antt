@@ -1,19 +1,20 @@
 -- A totaller that keeps its law makes sums over cells that do.
 use Rattle.std.proofs.Common.{◌≡◌, ℕ, zero, suc, ◌+◌, ◌*◌, ◌<◌, ◌≤◌, Bool, true, false, not, eqb, ◌≢◌, ◌↔◌, List, [], ◌∷◌, ◌++◌, map, length, get_or, None, sym, refl, ap, ◌∙◌, ap₂, inl, inr, arith}
 use Rattle.std.specs.List.{range_with_len, AllByRecursion as All}
+use Rattle.std.specs.Option.{option_or}
 use Rattle.std.proofs.lemmas.List.FromFn.{length-range_with_len, length-map-range_with_len}
 use Rattle.std.proofs.ByRecursion.{All-append, All-get_or, All-map, All-weaker}
 use Rattle.std.proofs.lemmas.List.{get_or-map, length-append, length-map, map-append, map-id}
 use Rattle.std.proofs.lemmas.Bool.{cases_eq, eq-eqb, ne_eqb}
 use Rattle.std.proofs.lemmas.Bool.Decides.{nat_tests}
-use Rattle.formulas.specs.Formula.{Literal, is, isnt, SpeaksOf, under, variable, Sized}
+use Rattle.formulas.specs.Formula.{Literal, is, isnt, SpeaksOf, under, variable, SizedClause}
 use Rattle.formulas.proofs.All.{all_counting_in, all_joined_in}
 use Rattle.totals.specs.Items as sum
 use Rattle.totals.specs.Items.{Item, item, Known, valued}
 use Rattle.totals.specs.Totaller as totaller
 use Rattle.totals.specs.Totaller.{Totaller, total, Weight}
 use Rattle.totallers.specs.Writing.{taking_fault}
-use Rattle.totallers.proofs.Faultless.{taking_none}
+use Rattle.totallers.proofs.Faultless.{both_none, taking_none}
 use Rattle.boards.specs.declared.board.Board.{Board}
 use Rattle.boards.specs.Board.{cells, side}
 use Rattle.boards.specs.Atoms.{Atom, at, fresh}
@@ -21,7 +22,7 @@ use Rattle.rules.specs.Grid.{Grid}
 use Rattle.rules.specs.Rule.{Fulfils, given, Inside, Rule, Sound}
 use Rattle.rules.proofs.Base.{digit_at}
 use Rattle.rules.proofs.Truth.{mapped_in, mapped_out}
-use Rattle.meanings.specs.Sum.{by_totaller, cell_items, cell_weights, digit_sum, literal, named, sum_formula}
+use Rattle.meanings.specs.Sum.{adding_fault, cell_items, cell_weights, digit_sum, large_fault, literal, named, sum_formula}
 use Rattle.meanings.proofs.Faults.{by_none}
 use Rattle.meanings.proofs.Says.{inside_more}
 
@@ -89,10 +90,10 @@ module _ (b : Board) where
   pub items_inside : (cs : List ℕ) → All (λ c. c < cells b) cs → All (Inside b 0) (cell_items b cs)
   items_inside cs on = all_joined_in (Inside b 0) _ cs (All-weaker _ _ (λ c l. digits_inside c (side b) l (omega arith)) cs on)
 
-  pub weights_small : (cs : List ℕ) → All Weight (cell_weights b cs)
-  weights_small [] = tt
-  weights_small (c ∷ cs) =
-      All-append Weight (range_with_len 1 (side b)) _ (all_counting_in Weight 1 (side b) (λ d low high. (low, omega (arith, b.small)))) (weights_small cs)
+  pub weights_small : side b ≤ 15 → (cs : List ℕ) → All Weight (cell_weights b cs)
+  weights_small small [] = tt
+  weights_small small (c ∷ cs) =
+      All-append Weight (range_with_len 1 (side b)) _ (all_counting_in Weight 1 (side b) (λ d low high. (low, omega (arith, small)))) (weights_small small cs)
 
   pub total_digits : (g : List ℕ) → Grid b g → (cs : List ℕ) → All (λ c. c < cells b) cs → total (cell_weights b cs) (hot g (cell_items b cs)) ≡ digit_sum g cs
   total_digits g G [] on = refl
@@ -150,8 +151,8 @@ module _ (𝓣 : Totaller) (b : Board) (atoms : List Atom) (ws : List ℕ) (t : 
       All-map _ (map (literal atoms)) (𝓣.formula ws t)
       (All-weaker _ _ (λ c h. All-map _ (literal atoms) c (All-weaker _ _ (literal_inside b atoms inside count) c h)) (𝓣.formula ws t) known)
 
-  sized : All Sized sum_rule.formula
-  sized = All-map Sized (map (literal atoms)) (𝓣.formula ws t)
+  sized : All SizedClause sum_rule.formula
+  sized = All-map SizedClause (map (literal atoms)) (𝓣.formula ws t)
       (All-weaker _ _ (λ c h. let e = length-map c (literal atoms) in omega arith) (𝓣.formula ws t) T.sized)
 
   module _ (g : List ℕ) (fs : List Bool) where
@@ -183,10 +184,16 @@ module _ (𝓣 : Totaller) (b : Board) (atoms : List Atom) (ws : List ℕ) (t : 
         };
   }
 
--- a totaller that is ready takes the items, and its fresh numbers fit
-pub taken : (𝓣 : Totaller) (ws : List ℕ) (t f : ℕ) → by_totaller (taking_fault 𝓣 ws t f) ≡ None → 𝓣.takes (length ws) t ≡ true
-taken 𝓣 ws t f h = (taking_none 𝓣 ws t f (by_none (taking_fault 𝓣 ws t f) h)).0
+-- where a totaller finds nothing wrong, it takes the items, the digits are weights and the fresh numbers fit
+module _ (𝓣 : Totaller) (b : Board) (ws : List ℕ) (t f : ℕ) (h : adding_fault 𝓣 b ws t f ≡ None) where
+  parts : (large_fault b ≡ None) × (taking_fault 𝓣 ws t f ≡ None)
+  parts = both_none (large_fault b) (taking_fault 𝓣 ws t f) (by_none (option_or (large_fault b) (taking_fault 𝓣 ws t f)) h)
 
-pub fresh_fit : (𝓣 : Totaller) (ws : List ℕ) (t f : ℕ) → by_totaller (taking_fault 𝓣 ws t f) ≡ None →
-    1 ≤ 𝓣.fresh_count ws t → f + 𝓣.fresh_count ws t ≤ 65536
-fresh_fit 𝓣 ws t f h some = let n = (taking_none 𝓣 ws t f (by_none (taking_fault 𝓣 ws t f) h)).1 in grind (arith, nat_tests)
+  pub digits_fit : side b ≤ 15
+  digits_fit = let e = parts.0 in grind (arith, nat_tests)
+
+  pub taken : 𝓣.takes (length ws) t ≡ true
+  taken = (taking_none 𝓣 ws t f parts.1).0
+
+  pub fresh_fit : 1 ≤ 𝓣.fresh_count ws t → f + 𝓣.fresh_count ws t ≤ 65536
+  fresh_fit some = let n = (taking_none 𝓣 ws t f parts.1).1 in grind (arith, nat_tests)

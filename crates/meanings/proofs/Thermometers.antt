@@ -4,7 +4,7 @@ use Rattle.std.specs.List.{range_with_len, AllByRecursion as All}
 use Rattle.std.proofs.ByRecursion.{All-map}
 use Rattle.std.proofs.lemmas.Bool.{lt-ltb, ltb-true}
 use Rattle.std.proofs.lemmas.Bool.Decides.{nat_tests}
-use Rattle.formulas.specs.Formula.{Clause, some_true, under, variable, Sized}
+use Rattle.formulas.specs.Formula.{Clause, some_true, under, variable, SizedClause}
 use Rattle.formulas.proofs.All.{all_counting_in, all_counting_out, all_joined_in, all_joined_out, all_map_out}
 use Rattle.totallers.proofs.Faultless.{both_none}
 use Rattle.boards.specs.declared.board.Board.{Board}
@@ -36,7 +36,7 @@ module _ (b : Board) where
   says_below : (p q : ℕ) → p < cells b → q < cells b → Says b (below b p q) (λ g. ltb (get_or g p 0) (get_or g q 0))
   says_below p q lp lq = record {
     contained = below_in (λ c. All (λ l. Inside b 0 (variable l)) c) b p q (λ d e i l u. omega arith);
-    sized = below_in Sized b p q (λ d e i l u. omega arith);
+    sized = below_in SizedClause b p q (λ d e i l u. omega arith);
     means = λ g G fs.
         let Ok : Clause Atom → Type 0 = λ c. some_true (under (given g fs)) c ≡ true in (
           λ h.

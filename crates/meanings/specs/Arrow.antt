@@ -2,13 +2,12 @@
 use Rattle.std.specs.Prelude.{ℕ, ◌+◌, ◌-◌, true, List, ◌++◌, map, drop, ◌==◌, slice_index}
 use Rattle.std.specs.List.{range_with_len}
 use Rattle.std.specs.Option.{option_or}
-use Rattle.totallers.specs.Writing.{taking_fault}
 use Rattle.boards.specs.declared.board.Board.{Board}
 use Rattle.boards.specs.Board.{side}
 use Rattle.boards.specs.Atoms.{Atom, at}
 use Rattle.parts.specs.Tests.{apart_fault, cell_fault, length_fault, repeat_fault}
 use Rattle.meanings.specs.Kind.{Kind}
-use Rattle.meanings.specs.Sum.{by_totaller, cell_items, cell_weights, digit_sum, sum_formula}
+use Rattle.meanings.specs.Sum.{adding_fault, cell_items, cell_weights, digit_sum, sum_formula}
 
 -- the first cell is the circle, and the others are the shaft
 abbrev pub circle : List ℕ → ℕ
@@ -30,7 +29,7 @@ arrow = record {
   number = 4;
   fault = λ b total body. option_or (length_fault 2 (side b + 1) body) (option_or (cell_fault b body) (option_or (repeat_fault body) (apart_fault b body)));
   keeps = λ b total body g. (digit_sum g (shaft body) == slice_index g (circle body));
-  ready = λ 𝓣 b total body f. by_totaller (taking_fault 𝓣 (arrow_weights b body) (side b) f);
+  ready = λ 𝓣 b total body f. adding_fault 𝓣 b (arrow_weights b body) (side b) f;
   fresh_count = λ 𝓣 b total body. 𝓣.fresh_count (arrow_weights b body) (side b);
   formula = λ 𝓣 b total body. sum_formula 𝓣 (arrow_items b body) (arrow_weights b body) (side b);
   summed = λ 𝓣 b total body i. true;

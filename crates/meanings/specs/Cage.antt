@@ -2,7 +2,6 @@
 use Rattle.std.specs.Prelude.{ℕ, ◌+◌, ◌*◌, ◌/◌, Bool, true, cond, not, ◌&&◌, List, [], ◌∷◌, ◌++◌, length, Some, None, Option, ◌==◌, nat_le, slice_index}
 use Rattle.std.specs.Option.{option_or}
 use Rattle.formulas.specs.Clause.{every}
-use Rattle.totallers.specs.Writing.{taking_fault}
 use Rattle.boards.specs.declared.board.Board.{Board}
 use Rattle.boards.specs.Board.{side}
 use Rattle.boards.specs.Base.{no_repeat}
@@ -10,7 +9,7 @@ use Rattle.parts.specs.declared.fault.KindFault.{KindFault}
 use Rattle.parts.specs.declared.fault.KindFault.TheVariants.{Total}
 use Rattle.parts.specs.Tests.{cell_fault, length_fault, repeat_fault}
 use Rattle.meanings.specs.Kind.{Kind}
-use Rattle.meanings.specs.Sum.{by_totaller, cell_items, cell_weights, digit_sum, sum_formula}
+use Rattle.meanings.specs.Sum.{adding_fault, cell_items, cell_weights, digit_sum, sum_formula}
 
 -- all digits of the board, added
 abbrev pub most_total : Board → ℕ
@@ -29,7 +28,7 @@ cage = record {
   number = 2;
   fault = λ b total body. option_or (length_fault 1 (side b) body) (option_or (cell_fault b body) (option_or (repeat_fault body) (total_fault b total)));
   keeps = λ b total body g. differ g body && (digit_sum g body == total);
-  ready = λ 𝓣 b total body f. by_totaller (taking_fault 𝓣 (cell_weights b body) total f);
+  ready = λ 𝓣 b total body f. adding_fault 𝓣 b (cell_weights b body) total f;
   fresh_count = λ 𝓣 b total body. 𝓣.fresh_count (cell_weights b body) total;
   formula = λ 𝓣 b total body. no_repeat b body ++ sum_formula 𝓣 (cell_items b body) (cell_weights b body) total;
   summed = λ 𝓣 b total body i. nat_le (length (no_repeat b body)) i;

@@ -1,11 +1,14 @@
 -- Sums over the digits of cells.
-use Rattle.std.specs.Prelude.{ℕ, ◌+◌, List, [], ◌∷◌, map, Some, None, Option, slice_index, slice_index_or}
+use Rattle.std.specs.Prelude.{ℕ, ◌+◌, cond, List, [], ◌∷◌, map, Some, None, Option, nat_le, slice_index, slice_index_or}
 use Rattle.std.specs.List.{range_with_len, flat_map}
+use Rattle.std.specs.Option.{option_or}
 use Rattle.formulas.specs.Formula.{Formula, Literal, is, isnt}
 use Rattle.totals.specs.Items as sum
 use Rattle.totals.specs.Items.{Item, item}
 use Rattle.totals.specs.Totaller.{Totaller}
 use Rattle.totallers.specs.declared.fault.TotallerFault.{TotallerFault}
+use Rattle.totallers.specs.declared.fault.TotallerFault.TheVariants.{Item as WrongItem}
+use Rattle.totallers.specs.Writing.{taking_fault}
 use Rattle.boards.specs.declared.board.Board.{Board}
 use Rattle.boards.specs.Board.{side}
 use Rattle.boards.specs.Atoms.{Atom, at, fresh}
@@ -42,3 +45,11 @@ sum_formula 𝓣 atoms ws t = map (map (literal atoms)) (𝓣.formula ws t)
 abbrev pub by_totaller : Option TotallerFault → Option KindFault
 by_totaller None = None
 by_totaller (Some e) = Some (kind.Totaller e)
+
+-- A digit beyond 15 is no weight. On a board that has one, the sixteenth item, the first cell's, is the first that is wrong.
+abbrev pub large_fault : Board → Option TotallerFault
+large_fault b = cond (nat_le (side b) 15) None (Some (WrongItem 15))
+
+-- what a totaller finds wrong with a sum of digits that has these weights
+abbrev pub adding_fault : Totaller → Board → List ℕ → ℕ → ℕ → Option KindFault
+adding_fault 𝓣 b ws t f = by_totaller (option_or (large_fault b) (taking_fault 𝓣 ws t f))

@@ -4,7 +4,7 @@ use Rattle.std.specs.List.{range_with_len, AllByRecursion as All}
 use Rattle.std.proofs.lemmas.List.FromFn.{length-map-range_with_len}
 use Rattle.std.proofs.ByRecursion.{All-append, All-map, All-get_or, All-from_get_or, All-weaker}
 use Rattle.std.proofs.lemmas.Bool.Decides.{nat_tests}
-use Rattle.formulas.specs.Formula.{Literal, is, Clause, Holds, some_true, under, variable, SpeaksOf, Sized}
+use Rattle.formulas.specs.Formula.{Literal, is, Clause, Holds, some_true, under, variable, SpeaksOf, SizedClause}
 use Rattle.formulas.proofs.All.{all_counting_in, all_counting_out, all_joined_in, all_joined_out, all_left, all_map_out, all_right}
 use Rattle.boards.specs.declared.board.Board.{Board}
 use Rattle.boards.specs.Board.{cells, lines, pairs, side}
@@ -74,10 +74,10 @@ module _ (b : Board) where
       (λ c l x y lx k ly. omega arith)
       (λ p q l u t d i. omega arith)
 
-  pub base_sized : All Sized (base b)
+  pub base_sized : All SizedClause (base b)
   base_sized =
       let some : 1 ≤ side b = mul-le-mul b.tall b.wide in
-      base_in b Sized
+      base_in b SizedClause
       (λ c l. omega (arith, length-map-range_with_len {X = Literal Atom} (λ d. is (at c d)) 1 (side b), b.small))
       (λ c l x y lx k ly. omega arith)
       (λ p q l u t d i. omega arith)

@@ -6,7 +6,7 @@ use Rattle.std.proofs.lemmas.Nat.{mul-add-lt}
 use Rattle.std.proofs.lemmas.List.{length-map}
 use Rattle.std.proofs.lemmas.Bool.{and_from, le-leb}
 use Rattle.formulas.specs.Clause.{right_length}
-use Rattle.formulas.specs.Formula.{Literal, is, isnt, Clause, Formula, SpeaksOf, variable, Sized}
+use Rattle.formulas.specs.Formula.{Literal, is, isnt, Clause, Formula, SpeaksOf, variable, SizedClause}
 use Rattle.formulas.specs.Numbered.{numbered, signed}
 use Rattle.boards.specs.declared.board.Board.{Board}
 use Rattle.boards.specs.Board.{cells, side}
@@ -16,10 +16,10 @@ use Rattle.rules.specs.Clauses.{clauses, fresh_total, rule_clauses, variables}
 use Rattle.rules.specs.Rule.{Inside, Rule, Sound}
 use Rattle.rules.proofs.Base.{base_contained, base_sized}
 
-numbered_sized : (b : Board) (before : ℕ) (f : Formula Atom) → All Sized f → All (λ c. right_length c ≡ true) (numbered (number b before) f)
+numbered_sized : (b : Board) (before : ℕ) (f : Formula Atom) → All SizedClause f → All (λ c. right_length c ≡ true) (numbered (number b before) f)
 numbered_sized b before f s = All-map (λ c. right_length c ≡ true) (map (signed (number b before))) f (All-weaker _ _ right f s)
   where
-    right : (c : Clause Atom) → Sized c → right_length (map (signed (number b before)) c) ≡ true
+    right : (c : Clause Atom) → SizedClause c → right_length (map (signed (number b before)) c) ≡ true
     right c s =
         let d = map (signed (number b before)) c in
         let e = length-map c (signed (number b before)) in

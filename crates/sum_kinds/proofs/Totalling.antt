@@ -5,16 +5,16 @@ use Rattle.std.specs.Option.{option_or}
 use Rattle.std.proofs.lemmas.Bool.Decides.{nat_tests}
 use Rattle.formulas.specs.Numbered.{numbered}
 use Rattle.formulas.proofs.Numbered.{numbered_joined}
-use Rattle.totals.specs.Totaller.{Totaller, Weight}
-use Rattle.totallers.specs.Writing.{ready_fault, sum_clauses, taking_fault}
+use Rattle.totals.specs.Totaller.{Totaller}
+use Rattle.totallers.specs.Writing.{items_fault, ready_fault, sum_clauses, taking_fault}
 use Rattle.boards.specs.declared.board.Board.{Board}
 use Rattle.boards.specs.Board.{pairs, side}
 use Rattle.boards.specs.Atoms.{Atom, at, cell_variables, fresh, number}
 use Rattle.boards.specs.Base.{clauses_of, no_repeat, not_both, not_same}
 use Rattle.rules.specs.Rule.{Inside}
 use Rattle.parts.specs.Tests.{first_number_fault}
-use Rattle.meanings.specs.Sum.{sum_formula}
-use Rattle.meanings.proofs.Numbers.{items_faultless, sum_numbered}
+use Rattle.meanings.specs.Sum.{adding_fault, by_totaller, large_fault, sum_formula}
+use Rattle.meanings.proofs.Numbers.{sum_numbered}
 use Rattle.kinds.specs.Answers.{clauses_from}
 
 -- cells have the same numbers wherever the fresh numbers begin
@@ -50,6 +50,11 @@ module _ (𝓣 : Totaller) (b : Board) (atoms : List Atom) (ws : List ℕ) (t f 
       let e : f - 1 + 1 ≡ f = omega arith in
       sum_numbered b (f - 1) atoms 𝓣 ws t ∙ ap₂ (λ vs k. sum_clauses 𝓣 vs ws t k) (cells_same b (f - 1) 0 atoms inside) e
 
-  -- what it finds wrong
-  pub ready_is : All Weight ws → length atoms ≡ length ws → 1 ≤ length atoms → ready_fault 𝓣 (map (number b 0) atoms) ws t f ≡ taking_fault 𝓣 ws t f
-  ready_is small same some = ap (λ o. option_or o (taking_fault 𝓣 ws t f)) (items_faultless b 0 f behind atoms ws inside small same some)
+  -- what it finds wrong, where the weights may be too large
+  pub ready_is : items_fault (map (number b 0) atoms) ws f ≡ large_fault b → by_totaller (ready_fault 𝓣 (map (number b 0) atoms) ws t f) ≡ adding_fault 𝓣 b ws t f
+  ready_is large = ap (λ o. by_totaller (option_or o (taking_fault 𝓣 ws t f))) large
+
+-- the first cell of some
+pub first_of : (cs : List ℕ) → 1 ≤ length cs → (c : ℕ) × (rest : List ℕ) × (cs ≡ c ∷ rest)
+first_of [] l = absurd (omega arith)
+first_of (c ∷ cs) l = (c, cs, refl)

@@ -11,7 +11,7 @@ use boards::Board;
 
 // Each digit in each cell, which weighs what the digit is.
 pub(crate) fn push_cells(items: &mut Items, board: &Board, cells: &[u8])
-    requires { items.old.len + length cells.now * side board.now ≤ 240 }
+    requires { items.old.len + length cells.now * side board.now ≤ 272 }
     ensures { (variables_of items.new ≡ variables_of items.old ++ map (number board.now 0) (cell_items board.now cells.now)) × ((weights_of items.new ≡ weights_of items.old ++ cell_weights board.now cells.now) × (items.new.len ≡ items.old.len + length cells.now * side board.now)) }
 {
     for index in 0..cells.len() {
@@ -20,7 +20,7 @@ pub(crate) fn push_cells(items: &mut Items, board: &Board, cells: &[u8])
 }
 
 fn push_cell(items: &mut Items, board: &Board, cell: u8)
-    requires { items.old.len + side board.now ≤ 240 }
+    requires { items.old.len + side board.now ≤ 272 }
     ensures { (variables_of items.new ≡ variables_of items.old ++ map (number board.now 0) (map (at cell) (range_with_len 1 (side board.now)))) × ((weights_of items.new ≡ weights_of items.old ++ range_with_len 1 (side board.now)) × (items.new.len ≡ items.old.len + side board.now)) }
 {
     for index in 0..board.side() as u8 {
@@ -30,7 +30,7 @@ fn push_cell(items: &mut Items, board: &Board, cell: u8)
 
 // The circle's digits but the greatest, each of which weighs what it lacks to the greatest.
 pub(crate) fn push_circle(items: &mut Items, board: &Board, cell: u8)
-    requires { items.old.len + side board.now ≤ 240 }
+    requires { items.old.len + side board.now ≤ 272 }
     ensures { (variables_of items.new ≡ variables_of items.old ++ map (number board.now 0) (map (at cell) (range_with_len 1 (side board.now - 1)))) × (weights_of items.new ≡ weights_of items.old ++ map (λ d. side board.now - d) (range_with_len 1 (side board.now - 1))) }
 {
     let side = board.side() as u8;

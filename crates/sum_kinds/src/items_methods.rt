@@ -16,7 +16,7 @@ impl Items {
 
     // An item more, at the end.
     pub(crate) fn push(&mut self, variable: u32, weight: u8)
-        requires { self.old.len < 240 }
+        requires { self.old.len < 272 }
         ensures { (variables_of self.new ≡ variables_of self.old ++ variable ∷ []) × ((weights_of self.new ≡ weights_of self.old ++ weight ∷ []) × (self.new.len ≡ self.old.len + 1)) }
     {
         self.variables[self.len] = variable;

@@ -68,7 +68,7 @@ fn write_digit_below<P: Place>(
     first: u32,
     place: &mut P,
 ) -> Result<(), PlaceFault>
-    requires { (1 ≤ digit) × (digit ≤ 15) }
+    requires { (1 ≤ digit) × (digit ≤ 16) }
     ensures { Writes P.Place (clauses_from board.now first (map (λ e. not_both (at lower digit) (at upper e)) (range_with_len 1 digit))) place.old place.new (result_err result) }
 {
     for index in 0..digit {

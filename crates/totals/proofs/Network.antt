@@ -6,7 +6,7 @@ use Rattle.std.proofs.lemmas.Nat.{shr-shr}
 use Rattle.std.proofs.lemmas.List.{drop_more, ext_get_or, length-append}
 use Rattle.std.proofs.lemmas.Bool.{cond_both}
 use Rattle.std.proofs.lemmas.Bool.Decides.{nat_tests}
-use Rattle.formulas.specs.Formula.{Holds, under, Sized}
+use Rattle.formulas.specs.Formula.{Holds, under, SizedClause}
 use Rattle.formulas.proofs.All.{holds_both, holds_left, holds_right}
 use Rattle.totals.specs.Items.{Item, item, fresh, Valuation, valued, Known, Contained}
 use Rattle.totals.specs.Totaller.{total, Exact, Lawful, Weight}
@@ -249,22 +249,22 @@ contained ws t o =
     (wired_contained (network item fresh ws).adders (length ws) 0 n (omega arith) (network_built ws).made)
     (closing_contained (length ws) n 0 t (network item fresh ws).bits o (rw e at (network_built ws).bits))
 
-adder_sized : (n : ℕ) (g : Adder Item) → All Sized (adder_clauses fresh n g)
+adder_sized : (n : ℕ) (g : Adder Item) → All SizedClause (adder_clauses fresh n g)
 adder_sized n (full a b c) =
     (omega arith, (omega arith, (omega arith, (omega arith, (omega arith, (omega arith, (omega arith, (omega arith, (omega arith, (omega arith, (omega arith, (omega arith, (omega arith, (omega arith, tt))))))))))))))
 adder_sized n (half a b) = (omega arith, (omega arith, (omega arith, (omega arith, (omega arith, (omega arith, (omega arith, tt)))))))
 
-wired_sized : (n : ℕ) (gs : List (Adder Item)) → All Sized (wired fresh n gs)
+wired_sized : (n : ℕ) (gs : List (Adder Item)) → All SizedClause (wired fresh n gs)
 wired_sized n [] = tt
 wired_sized n (g ∷ gs) = All-append _ (adder_clauses fresh n g) (wired fresh (n + 2) gs) (adder_sized n g) (wired_sized (n + 2) gs)
 
-close_sized : (b : Bool) (l : List Item) → All Sized (close (item 0) b l)
+close_sized : (b : Bool) (l : List Item) → All SizedClause (close (item 0) b l)
 close_sized true [] = (omega arith, (omega arith, tt))
 close_sized false [] = tt
 close_sized true (a ∷ l) = (omega arith, tt)
 close_sized false (a ∷ l) = (omega arith, tt)
 
-closing_sized : (k t : ℕ) (ls : List (List Item)) → All Sized (closing (item 0) k t ls)
+closing_sized : (k t : ℕ) (ls : List (List Item)) → All SizedClause (closing (item 0) k t ls)
 closing_sized k t [] = tt
 closing_sized k t (l ∷ ls) = All-append _ (close (item 0) (has_bit k t) l) (closing (item 0) (k + 1) t ls) (close_sized (has_bit k t) l) (closing_sized (k + 1) t ls)
 

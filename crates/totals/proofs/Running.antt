@@ -6,7 +6,7 @@ use Rattle.std.proofs.lemmas.List.{take_all, ext_get_or}
 use Rattle.std.proofs.lemmas.List.FromFn.{length-map-range_with_len, get_or-map-range_with_len}
 use Rattle.std.proofs.lemmas.Nat.{div-mul-add, mod-mul-add, div-add-mod', div_below, mod_below, mul-add-lt}
 use Rattle.std.proofs.lemmas.Bool.Decides.{nat_tests}
-use Rattle.formulas.specs.Formula.{is, isnt, Clause, Holds, under, some_true, variable, Sized}
+use Rattle.formulas.specs.Formula.{is, isnt, Clause, Holds, under, some_true, variable, SizedClause}
 use Rattle.formulas.proofs.All.{all_left, all_right}
 use Rattle.totals.specs.Items.{Item, item, Valuation, valued, Known, Contained}
 use Rattle.totals.specs.Totaller.{total, Exact, Lawful}
@@ -154,11 +154,11 @@ contained ws t =
     place : (i u : ℕ) → i < length ws + 1 → u < t + 1 → i * (t + 1) + u < (length ws + 1) * (t + 1)
     place i u li lu = omega (arith, mul-add-lt i (t + 1) u (length ws + 1) li lu)
 
-step_sized : (x p q r : Item) (b : Bool) → All Sized (cond b (as_unless (isnt x) p q) ((isnt x ∷ isnt p ∷ []) ∷ []) ++ as_unless (is x) p r)
+step_sized : (x p q r : Item) (b : Bool) → All SizedClause (cond b (as_unless (isnt x) p q) ((isnt x ∷ isnt p ∷ []) ∷ []) ++ as_unless (is x) p r)
 step_sized x p q r true = (omega arith, (omega arith, (omega arith, (omega arith, tt))))
 step_sized x p q r false = (omega arith, (omega arith, (omega arith, tt)))
 
-sized : (ws : List ℕ) (t : ℕ) → All Sized (running.formula ws t)
+sized : (ws : List ℕ) (t : ℕ) → All SizedClause (running.formula ws t)
 sized ws t =
     All-append ok (first_row t ++ rows ws t) _
     (All-append ok (first_row t) (rows ws t)

@@ -1,8 +1,8 @@
 -- What a totaller is, and the law of one.
 use Rattle.std.specs.Prelude.{◌≡◌, ℕ, ◌+◌, ◌≤◌, Bool, true, cond, List, [], ◌∷◌, length}
 use Rattle.std.specs.List.{AllByRecursion as All}
-use Rattle.formulas.specs.Formula.{Formula, Holds, Sized, under}
-use Rattle.totals.specs.Items.{Contained, Item, valued}
+use Rattle.formulas.specs.Formula.{Formula, Holds, under}
+use Rattle.totals.specs.Items.{Contained, Item, Sized, valued}
 
 pub record Totaller : Type 0 where
   -- the greatest number of items
@@ -36,7 +36,7 @@ pub record Exact (𝓣 : Totaller) (ws : List ℕ) (t : ℕ) (xs : List Bool) : 
 pub record Sound (𝓣 : Totaller) (ws : List ℕ) (t : ℕ) : Type 0 where
   -- it speaks of the items and of its own fresh variables only, in clauses of 1 to 16 literals
   pub contained : Contained (length ws) (𝓣.fresh_count ws t) (𝓣.formula ws t)
-  pub sized : All Sized (𝓣.formula ws t)
+  pub sized : Sized (𝓣.formula ws t)
   pub exact : (xs : List Bool) → length xs ≡ length ws → Exact 𝓣 ws t xs
 
 pub record Lawful (𝓣 : Totaller) : Type 0 where

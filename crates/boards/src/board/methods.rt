@@ -25,7 +25,7 @@ impl Board {
     // How many cells a row, a column or a box has.
     pub fn side(&self) -> usize
         ensures value { result ≡ side self.now }
-        ensures bound { (1 ≤ result) × (result ≤ 15) }
+        ensures bound { (1 ≤ result) × (result ≤ 16) }
     {
         self.height as usize * self.width as usize
     }
@@ -33,7 +33,7 @@ impl Board {
     // How many cells the board has.
     pub fn cells(&self) -> usize
         ensures value { result ≡ cells self.now }
-        ensures bound { result ≤ 225 }
+        ensures bound { result ≤ 256 }
     {
         self.side() * self.side()
     }
@@ -41,7 +41,7 @@ impl Board {
     // The number of the variable which says that a cell has a digit.
     pub fn variable(&self, cell: u8, digit: u8) -> u32
         ensures value { result ≡ number self.now 0 (at cell digit) }
-        ensures bound { result ≤ 4080 }
+        ensures bound { result ≤ 4335 }
     {
         cell as u32 * self.side() as u32 + digit as u32
     }

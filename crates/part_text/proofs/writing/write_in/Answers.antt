@@ -32,7 +32,7 @@ overflow_add-cell_variables-2 g c =
     c.open-place.result c.write_base.new.place c.write.new.place (length c.args.room.now) (c.cells.result * c.side.result + 1)
     c.open-place.ensures.holds c.open-place.ensures.room c.in_ok-write_base.ensures (ap (λ k. k + 1) n)
     c.in_ok-fresh.fresh c.in_ok-fresh.ensures in
-    let most : c.cells.result * c.side.result ≤ 225 * 15 = mul-le-mul c.cells.ensures.bound c.side.ensures.bound.1 in
+    let most : c.cells.result * c.side.result ≤ 256 * 16 = mul-le-mul c.cells.ensures.bound c.side.ensures.bound.1 in
     let few = few_variables (c.cells.result * c.side.result) c.in_ok-fresh.fresh most (λ one. omega (arith, s.few one, n)) in
     search rules
 
