@@ -2,18 +2,14 @@
 use Rattle.std.specs.Prelude.{◌≡◌, ℕ, ◌+◌, ◌-◌, Bool, true, false, ◌&&◌, List, [], ◌∷◌, length, ℤ, pos, negsuc, Some, None, Option, ◌==◌, slice_index_or}
 use Rattle.std.specs.List.{range_with_len, flat_map}
 use Rattle.formulas.specs.Clause.{every}
-use Rattle.totals.specs.Adders.{adders}
 use Rattle.totals.specs.Running.{running}
 use Rattle.totals.specs.Totaller.{Totaller}
-use Rattle.places.specs.declared.fault.Refusal.{Refusal}
-use Rattle.totallers.specs.Fault as totaller
+use Rattle.totallers.specs.declared.fault.TotallerFault.{TotallerFault}
+use Rattle.totallers.specs.Fault.{refusal}
 use Rattle.totallers.specs.Writing.{ready_fault, sum_clauses}
 use Rattle.boards.specs.declared.board.Board.{Board}
 use Rattle.boards.specs.Atoms.{cell_variables}
 use Rattle.boards.specs.Board.{three_by_three, two_by_two}
-use Rattle.parts.specs.Fault as part
-use Rattle.meanings.specs.Kind.{Kind}
-use Rattle.meanings.specs.Cage.{cage}
 use Rattle.draft.specs.Opening.{base_clauses}
 
 -- what an example says
@@ -27,8 +23,6 @@ pub data Example : Type 0 where
   sum_counts : Totaller → List ℕ → List ℕ → ℕ → ℕ → ℕ → ℕ → Example
   -- what is wrong with such a sum: number and position, or nothing
   sum_wrong : Totaller → List ℕ → List ℕ → ℕ → ℕ → List ℕ → Example
-  -- what is wrong with a part of a kind on the board: number and position, or nothing
-  part_wrong : Kind → Board → ℕ → List ℕ → List ℕ → Example
 
 abbrev pub same_literal : ℤ → ℤ → Bool
 same_literal (pos m) (pos n) = m == n
@@ -49,13 +43,9 @@ same_numbers (x ∷ xs) [] = false
 same_numbers (x ∷ xs) (y ∷ ys) = x == y && same_numbers xs ys
 
 -- a fault's number and position
-abbrev pub told : Option Refusal → List ℕ
+abbrev pub told : Option TotallerFault → List ℕ
 told None = []
-told (Some e) = e.number ∷ e.position ∷ []
-
-abbrev pub reported : {E : Type 0} → (E → Refusal) → Option E → Option Refusal
-reported refusal None = None
-reported refusal (Some e) = Some (refusal e)
+told (Some e) = (refusal e).number ∷ (refusal e).position ∷ []
 
 abbrev pub holds : Example → Bool
 holds (counts b variables clauses) = cell_variables b == variables && length (base_clauses b) == clauses
@@ -63,8 +53,7 @@ holds (first b c) = same_clause (slice_index_or (base_clauses b) 0 []) c
 holds (last b c) = same_clause (slice_index_or (base_clauses b) (length (base_clauses b) - 1) []) c
 holds (sum_counts 𝓣 vs ws t f variables clauses) =
     (f - 1 + 𝓣.fresh_count ws t == variables) && length (sum_clauses 𝓣 vs ws t f) == clauses
-holds (sum_wrong 𝓣 vs ws t f expected) = same_numbers (told (reported totaller.refusal (ready_fault 𝓣 vs ws t f))) expected
-holds (part_wrong 𝓚 b total body expected) = same_numbers (told (reported part.refusal (𝓚.fault b total body))) expected
+holds (sum_wrong 𝓣 vs ws t f expected) = same_numbers (told (ready_fault 𝓣 vs ws t f)) expected
 
 -- the items of the first eight cells of a board of side 9: each digit in each cell, with the digit as weight
 abbrev pub eight_cells : List ℕ
@@ -77,11 +66,7 @@ examples =
     first two_by_two (pos 1 ∷ pos 2 ∷ pos 3 ∷ pos 4 ∷ []) ∷
     last two_by_two (negsuc 59 ∷ negsuc 63 ∷ []) ∷
     counts three_by_three 729 11745 ∷
-    sum_counts adders (1 ∷ 2 ∷ []) (1 ∷ 1 ∷ []) 1 3 4 9 ∷
     sum_counts running (1 ∷ 2 ∷ []) (1 ∷ 1 ∷ []) 1 3 8 17 ∷
-    part_wrong cage two_by_two 10 (0 ∷ 1 ∷ []) [] ∷
-    part_wrong cage two_by_two 11 (0 ∷ 1 ∷ []) (7 ∷ 0 ∷ []) ∷
-    part_wrong cage two_by_two 3 (0 ∷ 1 ∷ 0 ∷ []) (5 ∷ 2 ∷ []) ∷
     sum_wrong running (range_with_len 1 72) eight_cells 40 730 [] ∷
     sum_wrong running (range_with_len 1 72) eight_cells 41 730 (23 ∷ 72 ∷ []) ∷
     []

@@ -9,5 +9,5 @@ pub fn example_count() -> usize
     ensures count { result ≡ length examples }
     ensures all { Examples }
 {
-    11
+    7
 }
