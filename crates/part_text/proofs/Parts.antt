@@ -113,7 +113,7 @@ module _ (𝓚 : Kind) (𝓣 : Totaller) (lawful : Lawful 𝓚) (b : Board) (tot
           (t.2.ended ∙ ap (λ n. cond (leb (sum_by text_charge cs) (free_text q)) None (Some (NoSpace (n + k)))) held) t.1
 
 -- the variables of the cells and the fresh ones are few
-pub few_variables : (n fresh : ℕ) → n ≤ 3375 → (1 ≤ fresh → n + 1 + fresh ≤ 65536) → n + fresh < 2 ^ 32
+pub few_variables : (n fresh : ℕ) → n ≤ 4096 → (1 ≤ fresh → n + 1 + fresh ≤ 65536) → n + fresh < 2 ^ 32
 few_variables n fresh l few =
     elim (cases_Bool (leb 1 fresh)) [
       | inl e ↦ omega (arith, few (leb-true 1 fresh e))
