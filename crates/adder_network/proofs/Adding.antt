@@ -1,6 +1,6 @@
 -- The clauses of an adder, as the code has them: a table over the places of its variables.
 use Rattle.std.proofs.Common.{◌≡◌, ℕ, Bool, true, ◌&&◌, ltb, leb, List, [], ◌∷◌, map, length, get_or, ℤ, pos, ◌-ℤ◌, Option, refl, ap, ◌∙◌, subst, ap₂, arith, w32, to_z, of_z}
-use Rattle.std.specs.List.{flat_map, AllByRecursion as All}
+use Rattle.std.specs.List.{flat_map, AllByRecursion as Each}
 use Rattle.std.proofs.lemmas.List.{length-map}
 use Rattle.std.proofs.lemmas.Bool.{and_from, and_parts, ltb-true}
 use Rattle.std.proofs.ByRecursion.{All-get_or}
@@ -41,7 +41,7 @@ short c = leb 1 (length c) && leb (length c) 16
 abbrev pub table_fits : ℕ → Formula ℕ → Bool
 table_fits n f = every (λ c. short c && below n c) f
 
-module _ (vs : List ℕ) (ok : All Usable vs) where
+module _ (vs : List ℕ) (ok : Each Usable vs) where
   usable_at : (i : ℕ) → ltb i (length vs) ≡ true → Usable (get_or vs i 0)
   usable_at i h = All-get_or Usable vs i 0 (ltb-true i (length vs) h) ok
 

@@ -1,6 +1,6 @@
 -- The variables that come to a line.
 use Rattle.std.proofs.Common.{◌≡◌, ℕ, zero, suc, ◌+◌, ◌*◌, ◌<◌, ◌≤◌, true, false, List, [], ◌∷◌, ◌++◌, length, get_or, drop, sym, ap, ◌∙◌, inl, inr, append_assoc, append-nil, arith}
-use Rattle.std.specs.List.{AllByRecursion as All}
+use Rattle.std.specs.List.{AllByRecursion as Each}
 use Rattle.std.proofs.ByRecursion.{All-append}
 use Rattle.std.proofs.lemmas.List.{drop_all, drop_more}
 use Rattle.std.proofs.lemmas.Bool.{cases_Bool, cond-true, cond-false}
@@ -26,7 +26,7 @@ module _ (of : ℕ → ℕ) (k : ℕ) (ws all : List ℕ) (i : ℕ) (ls : List �
         ap (λ r. r ++ rest) e ∙ ap (λ r. ls ++ r) (sym (ap (with_bit of k i) (drop_more ws i 0 l) ∙ cond-false (has_bit k (get_or ws i 0)) (of i ∷ rest) rest h)) ∙ so_far
 
 -- all of them are variables that a place takes
-items_usable : (of : ℕ → ℕ) (k i : ℕ) (ws : List ℕ) → ((j : ℕ) → j < i + length ws → Usable (of j)) → All Usable (with_bit of k i ws)
+items_usable : (of : ℕ → ℕ) (k i : ℕ) (ws : List ℕ) → ((j : ℕ) → j < i + length ws → Usable (of j)) → Each Usable (with_bit of k i ws)
 items_usable of k i [] h = tt
 items_usable of k i (w ∷ ws) h =
     let ih = items_usable of k (i + 1) ws (λ j l. h j (omega arith)) in
@@ -35,14 +35,14 @@ items_usable of k i (w ∷ ws) h =
       | inr e ↦ rw e ih
     ]
 
-seconds_usable : (n c : ℕ) → 1 ≤ n → (1 ≤ c → n + 2 * c ≤ 65537) → All Usable (seconds n c)
+seconds_usable : (n c : ℕ) → 1 ≤ n → (1 ≤ c → n + 2 * c ≤ 65537) → Each Usable (seconds n c)
 seconds_usable n zero l h = tt
 seconds_usable n (suc c) l h =
     let u = h (omega arith) in
     ((l, omega arith), seconds_usable (n + 2) c (omega arith) (λ m. omega arith))
 
 pub line_usable : (vs ws : List ℕ) (k b c : ℕ) → length vs ≡ length ws → ((j : ℕ) → j < length vs → Usable (get_or vs j 0)) → (1 ≤ c → b + 2 * c ≤ 65536) →
-    All Usable (line_of vs ws k b c)
+    Each Usable (line_of vs ws k b c)
 line_usable vs ws k b c same items room =
     All-append Usable (with_bit (λ i. get_or vs i 0) k 0 ws) (seconds (b + 1) c)
     (items_usable (λ i. get_or vs i 0) k 0 ws (λ j l. items j (omega arith)))

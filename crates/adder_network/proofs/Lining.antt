@@ -1,6 +1,6 @@
 -- The lines of a network, one after the other.
 use Rattle.std.proofs.Common.{◌≡◌, ℕ, ◌+◌, ◌*◌, ◌/◌, ◌<◌, ◌≤◌, List, [], ◌∷◌, ◌++◌, map, length, take, set, IsErrAnd, Some, None, Ok, Err, Option, Result, sym, refl, ap, ◌∙◌, subst, append_assoc, append-nil, arith}
-use Rattle.std.specs.List.{AllByRecursion as All}
+use Rattle.std.specs.List.{AllByRecursion as Each}
 use Rattle.std.proofs.ByRecursion.{All-set}
 use Rattle.std.proofs.lemmas.List.{length-set, take_all, take_more_set}
 use Rattle.places.specs.declared.fault.PlaceFault.{PlaceFault}
@@ -18,17 +18,17 @@ pub record Lining {P : Type 0} (𝓟 : Ghosts P) (vs ws : List ℕ) (f : ℕ) (p
   pub rest : Left 𝓟 (wiring f (lines_from vs ws 0 f 0).adders) p₀ (wiring (b + 2 * c) (lines_from vs ws k b c).adders) p
   pub told : take k bits ++ map bit_of (lines_from vs ws k b c).bits ≡ map bit_of (lines_from vs ws 0 f 0).bits
   pub size : length bits ≡ 11
-  pub usable : All UsableBit bits
+  pub usable : Each UsableBit bits
   pub few : c ≤ 96
   pub low : 1 ≤ b
   pub room : 1 ≤ c + count_from ws k c → b + 2 * (c + count_from ws k c) ≤ 65536
 
-bit_usable : (ls : List ℕ) → All Usable ls → UsableBit (bit_of ls)
+bit_usable : (ls : List ℕ) → Each Usable ls → UsableBit (bit_of ls)
 bit_usable [] u = tt
 bit_usable (v ∷ ls) u = (u.0, tt)
 
 module _ {P : Type 0} (𝓟 : Ghosts P) (vs ws : List ℕ) (f : ℕ) (fit : Fitting vs ws f) (p₀ : P) where
-  pub lining_none : (bits : List (Option ℕ)) → length bits ≡ 11 → All UsableBit bits → Lining 𝓟 vs ws f p₀ 0 f 0 bits p₀
+  pub lining_none : (bits : List (Option ℕ)) → length bits ≡ 11 → Each UsableBit bits → Lining 𝓟 vs ws f p₀ 0 f 0 bits p₀
   lining_none bits size usable = record {
     rest = λ q o w. let e : f + 2 * 0 ≡ f = omega arith in subst (λ n. Writes 𝓟 (wiring n (lines_from vs ws 0 f 0).adders) p₀ q o) e w;
     told = refl;
@@ -40,7 +40,7 @@ module _ {P : Type 0} (𝓟 : Ghosts P) (vs ws : List ℕ) (f : ℕ) (fit : Fitt
   }
 
   module _ (k b c : ℕ) (bits : List (Option ℕ)) (p : P) (h : Lining 𝓟 vs ws f p₀ k b c bits p) where
-    pub lining_all : 11 ≤ k → k ≤ 11 → Writes 𝓟 (wiring f (lines_from vs ws 0 f 0).adders) p₀ p None × (bits ≡ map bit_of (lines_from vs ws 0 f 0).bits) × All UsableBit bits
+    pub lining_all : 11 ≤ k → k ≤ 11 → Writes 𝓟 (wiring f (lines_from vs ws 0 f 0).adders) p₀ p None × (bits ≡ map bit_of (lines_from vs ws 0 f 0).bits) × Each UsableBit bits
     lining_all l u =
         let e : k ≡ 11 = omega arith in
         let last : lines_from vs ws k b c ≡ record { adders = []; bits = [] } = ap (λ m. lines_from vs ws m b c) e ∙ from_last vs ws b c in (
@@ -70,7 +70,7 @@ module _ {P : Type 0} (𝓟 : Ghosts P) (vs ws : List ℕ) (f : ℕ) (fit : Fitt
       pub line_room : 2 ≤ length line → next + 2 * (length line / 2) ≤ 65536
       line_room m = omega (arith, counted, h.room (omega (arith, counted)))
 
-      pub line_good : All Usable line
+      pub line_good : Each Usable line
       line_good = line_usable vs ws k b c fit.same fit.items (λ m. omega (arith, h.room (omega arith)))
 
       split : wiring next (lines_from vs ws k b c).adders ≡
@@ -106,8 +106,8 @@ module _ {P : Type 0} (𝓟 : Ghosts P) (vs ws : List ℕ) (f : ℕ) (fit : Fitt
         pub ready_few : length ls ≤ 192
         ready_few = subst (λ m. length m ≤ 192) (sym el) line_few
 
-        pub ready_good : All Usable ls
-        ready_good = subst (All Usable) (sym el) line_good
+        pub ready_good : Each Usable ls
+        ready_good = subst (Each Usable) (sym el) line_good
 
         pub ready_room : 2 ≤ length ls → n + 2 * (length ls / 2) ≤ 65536
         ready_room = subst (λ m. 2 ≤ length m → n + 2 * (length m / 2) ≤ 65536) (sym el) (subst (λ z. 2 ≤ length line → z + 2 * (length line / 2) ≤ 65536) (sym en) line_room)
@@ -118,7 +118,7 @@ module _ {P : Type 0} (𝓟 : Ghosts P) (vs ws : List ℕ) (f : ℕ) (fit : Fitt
         pub exit_as : (q : P) (e : PlaceFault) → Writes 𝓟 (wiring n (reduced ls n).adders) p q (Some e) → Writes 𝓟 (wiring f (lines_from vs ws 0 f 0).adders) p₀ q (Some e)
         exit_as q e w = lining_exit q e (as_line q (Some e) w)
 
-        pub more_as : (q : P) (ls' : List ℕ) → ls' ≡ (reduced ls n).left → All Usable ls' → (bit : Option ℕ) → bit ≡ bit_of ls' → Writes 𝓟 (wiring n (reduced ls n).adders) p q None →
+        pub more_as : (q : P) (ls' : List ℕ) → ls' ≡ (reduced ls n).left → Each Usable ls' → (bit : Option ℕ) → bit ≡ bit_of ls' → Writes 𝓟 (wiring n (reduced ls n).adders) p q None →
             (b' c' : ℕ) → b' ≡ next → c' ≡ length ls / 2 → Lining 𝓟 vs ws f p₀ (k + 1) b' c' (set bits k bit) q
         more_as q ls' left good bit e w b' c' eb ec =
             let left_is : ls' ≡ (reduced line next).left = left ∙ ap (λ m. (reduced m n).left) el ∙ ap (λ z. (reduced line z).left) en in

@@ -1,6 +1,6 @@
 -- A line that is taken down by one adder after the other.
 use Rattle.std.proofs.Common.{◌≡◌, ℕ, ◌+◌, ◌*◌, ◌/◌, ◌≤◌, List, [], ◌∷◌, ◌++◌, length, drop, Some, None, sym, refl, ap, ◌∙◌, arith}
-use Rattle.std.specs.List.{AllByRecursion as All}
+use Rattle.std.specs.List.{AllByRecursion as Each}
 use Rattle.std.proofs.ByRecursion.{All-append, All-drop}
 use Rattle.std.proofs.lemmas.List.{length-drop, length_push}
 use Rattle.places.specs.declared.fault.PlaceFault.{PlaceFault}
@@ -16,13 +16,13 @@ pub record Reducing {P : Type 0} (𝓟 : Ghosts P) (ls₀ : List ℕ) (n₀ : �
   -- what is still to be written
   pub rest : Left 𝓟 (wiring n₀ (reduced ls₀ n₀).adders) p₀ (wiring n (reduced ls n).adders) p
   pub left : (reduced ls n).left ≡ (reduced ls₀ n₀).left
-  pub usable : All Usable ls
+  pub usable : Each Usable ls
   pub space : e + length ls / 2 ≤ 288
   pub low : 1 ≤ n
   pub room : 2 ≤ length ls → n + 2 * (length ls / 2) ≤ 65536
 
 module _ {P : Type 0} (𝓟 : Ghosts P) (ls₀ : List ℕ) (n₀ : ℕ) (p₀ : P) where
-  pub reducing_none : (e : ℕ) → All Usable ls₀ → e + length ls₀ / 2 ≤ 288 → 1 ≤ n₀ → (2 ≤ length ls₀ → n₀ + 2 * (length ls₀ / 2) ≤ 65536) → Reducing 𝓟 ls₀ n₀ p₀ ls₀ e n₀ p₀
+  pub reducing_none : (e : ℕ) → Each Usable ls₀ → e + length ls₀ / 2 ≤ 288 → 1 ≤ n₀ → (2 ≤ length ls₀ → n₀ + 2 * (length ls₀ / 2) ≤ 65536) → Reducing 𝓟 ls₀ n₀ p₀ ls₀ e n₀ p₀
   reducing_none e u s l r = record { rest = λ q o w. w; left = refl; usable = u; space = s; low = l; room = r }
 
   module _ (ls : List ℕ) (e n : ℕ) (p : P) (h : Reducing 𝓟 ls₀ n₀ p₀ ls e n p) where

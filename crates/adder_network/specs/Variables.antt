@@ -1,6 +1,6 @@
 -- The variables of an adder network, and what comes of writing its lines.
 use Rattle.std.specs.Prelude.{◌≡◌, ℕ, ◌+◌, ◌*◌, ◌<◌, ◌≤◌, List, [], ◌∷◌, map, length, Some, None, Ok, Err, Option, Result, slice_index}
-use Rattle.std.specs.List.{AllByRecursion as All}
+use Rattle.std.specs.List.{AllByRecursion as Each}
 use Rattle.places.specs.declared.fault.PlaceFault.{PlaceFault}
 use Rattle.places.specs.declared.place.Place.{Ghosts}
 use Rattle.places.specs.Written.{Writes}
@@ -21,7 +21,7 @@ listed None = []
 listed (Some v) = v ∷ []
 
 abbrev pub UsableBit : Option ℕ → Type 0
-UsableBit b = All Usable (listed b)
+UsableBit b = Each Usable (listed b)
 
 -- items that can be literals, and fresh numbers from f on that fit, if there are any
 pub record Fitting (vs ws : List ℕ) (f : ℕ) : Type 0 where
@@ -34,5 +34,5 @@ pub record Fitting (vs ws : List ℕ) (f : ℕ) : Type 0 where
 -- the adders of all lines are written, and the lines' bits are told
 abbrev pub Lined : {P : Type 0} → Ghosts P → List ℕ → List ℕ → ℕ → P → P → Result (List (Option ℕ)) PlaceFault → Type 0
 Lined place vs ws f p q (Ok bits) =
-    Writes place (wiring f (lines_from vs ws 0 f 0).adders) p q None × (bits ≡ map bit_of (lines_from vs ws 0 f 0).bits) × All UsableBit bits
+    Writes place (wiring f (lines_from vs ws 0 f 0).adders) p q None × (bits ≡ map bit_of (lines_from vs ws 0 f 0).bits) × Each UsableBit bits
 Lined place vs ws f p q (Err e) = Writes place (wiring f (lines_from vs ws 0 f 0).adders) p q (Some e)

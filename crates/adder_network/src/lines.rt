@@ -1,7 +1,7 @@
 // The lines of an adder network, one after the other.
 ghost use Rattle.std.specs.Prelude.{◌≡◌, ◌+◌, ◌<◌, ◌≤◌, map, length};
 ghost use Rattle.std.specs.Result.{result_err};
-ghost use Rattle.std.specs.List.{AllByRecursion as All};
+ghost use Rattle.std.specs.List.{AllByRecursion as Each};
 ghost use Rattle.formulas.specs.Numbered.{plain};
 ghost use Rattle.places.specs.Written.{Writes};
 ghost use Rattle.totals.specs.Adders.{close, closing, with_bit};
@@ -82,7 +82,7 @@ pub(crate) fn write_closing<P: Place>(
     place: &mut P,
 ) -> Result<(), PlaceFault>
     requires item { Usable item }
-    requires bits { All UsableBit bits.now }
+    requires bits { Each UsableBit bits.now }
     ensures { Writes P.Place (plain (closing item 0 target (map listed bits.now))) place.old place.new (result_err result) }
 {
     for index in 0..LINES {

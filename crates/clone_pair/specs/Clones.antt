@@ -1,7 +1,7 @@
 -- A pair of clones keeps its law.
 use Rattle.std.specs.Prelude.{◌≡◌, ℕ, ◌<◌, true, List, None, nat_eq, slice_index}
 use Rattle.std.proofs.Common.{arith}
-use Rattle.std.specs.List.{range_with_len, AllByRecursion as All}
+use Rattle.std.specs.List.{range_with_len, AllByRecursion as Each}
 use Rattle.std.proofs.ByRecursion.{All-get_or, All-map}
 use Rattle.std.proofs.lemmas.Bool.Decides.{nat_tests}
 use Rattle.formulas.specs.Formula.{Clause, SizedClause, some_true, under, variable}
@@ -21,15 +21,15 @@ use Rattle.clone_pair.specs.Meaning.{clone_pair, first_cell, follows, same, seco
 
 -- the clauses of a pair, for any property of clauses
 module _ (P : Clause Atom → Type 0) (b : Board) (p q : ℕ) where
-  same_in : ((d : ℕ) → Digit b d → P (follows p q d)) → All P (same b p q)
+  same_in : ((d : ℕ) → Digit b d → P (follows p q d)) → Each P (same b p q)
   same_in h = All-map P _ (range_with_len 1 (side b)) (all_counting_in _ 1 (side b) (λ d l u. h d (l, omega arith)))
 
-  same_out : All P (same b p q) → (d : ℕ) → Digit b d → P (follows p q d)
+  same_out : Each P (same b p q) → (d : ℕ) → Digit b d → P (follows p q d)
   same_out h d i = all_counting_out _ 1 (side b) (all_map_out P _ (range_with_len 1 (side b)) h) d i.0 (omega arith)
 
 says_same : (b : Board) (p q : ℕ) → p < cells b → q < cells b → Says b (same b p q) (λ g. nat_eq (slice_index g p) (slice_index g q))
 says_same b p q lp lq = record {
-  contained = same_in (λ c. All (λ l. Inside b 0 (variable l)) c) b p q (λ d i. omega arith);
+  contained = same_in (λ c. Each (λ l. Inside b 0 (variable l)) c) b p q (λ d i. omega arith);
   sized = same_in SizedClause b p q (λ d i. omega arith);
   means = λ g G fs.
       let Ok : Clause Atom → Type 0 = λ c. some_true (under (given g fs)) c ≡ true in (

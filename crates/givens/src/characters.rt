@@ -1,7 +1,7 @@
 // The characters of a line of givens.
 ghost use Rattle.std.specs.Prelude.{◌≡◌, ◌≤◌, true, not, ◌||◌, [], ◌∷◌, length, ◌==◌, slice_index};
 ghost use Rattle.std.specs.Result.{result_err};
-ghost use Rattle.std.specs.List.{AllByRecursion as All};
+ghost use Rattle.std.specs.List.{AllByRecursion as Each};
 ghost use Rattle.places.specs.Written.{Writes};
 ghost use Rattle.parts.specs.declared.fault.KindFault.TheVariants.{Character};
 ghost use Rattle.parts.specs.Tests.{index_fault};
@@ -65,7 +65,7 @@ pub(crate) fn write_digits<P: Place>(
     place: &mut P,
 ) -> Result<(), PlaceFault>
     requires few { length body.now ≤ 256 }
-    requires characters { All (λ ch. meaning.fitting board.now ch ≡ true) body.now }
+    requires characters { Each (λ ch. meaning.fitting board.now ch ≡ true) body.now }
     ensures { Writes P.Place (clauses_from board.now first (meaning.stated 0 body.now)) place.old place.new (result_err result) }
 {
     for index in 0..body.len() {

@@ -1,6 +1,6 @@
 -- An arrow keeps its law.
 use Rattle.std.proofs.Common.{◌≡◌, ℕ, ◌+◌, ◌-◌, ◌*◌, ◌<◌, ◌≤◌, eqb, List, map, length, get_or, sym, ◌∙◌, ap₂, inl, inr, arith}
-use Rattle.std.specs.List.{range_with_len, AllByRecursion as All}
+use Rattle.std.specs.List.{range_with_len, AllByRecursion as Each}
 use Rattle.std.proofs.lemmas.List.FromFn.{length-map-range_with_len}
 use Rattle.std.proofs.ByRecursion.{All-append, All-drop, All-get_or, All-map}
 use Rattle.std.proofs.lemmas.List.{length-append}
@@ -44,20 +44,20 @@ module _ (b : Board) (body : List ℕ) where
         length-map-range_with_len lacks 1 (side b - 1),
       )
 
-  pub arrow_weights_small : side b ≤ 15 → All Weight (arrow_weights b body)
+  pub arrow_weights_small : side b ≤ 15 → Each Weight (arrow_weights b body)
   arrow_weights_small small =
       All-append Weight (cell_weights b (shaft body)) _ (weights_small b small (shaft body))
       (All-map Weight lacks (range_with_len 1 (side b - 1)) (all_counting_in _ 1 (side b - 1) (λ d low high. omega (arith, b.small))))
 
-  module _ (some : 1 ≤ length body) (on : All (λ c. c < cells b) body) where
+  module _ (some : 1 ≤ length body) (on : Each (λ c. c < cells b) body) where
     pub circle_on : circle body < cells b
     circle_on = All-get_or (λ c. c < cells b) body 0 0 some on
 
-    pub shaft_on : All (λ c. c < cells b) (shaft body)
+    pub shaft_on : Each (λ c. c < cells b) (shaft body)
     shaft_on = All-drop (λ c. c < cells b) 1 body on
 
     -- each item is a cell with a digit
-    pub arrow_items_inside : All (Inside b 0) (arrow_items b body)
+    pub arrow_items_inside : Each (Inside b 0) (arrow_items b body)
     arrow_items_inside =
         All-append (Inside b 0) (cell_items b (shaft body)) _ (items_inside b (shaft body) shaft_on)
         (digits_inside b (circle body) (side b - 1) circle_on (omega arith))

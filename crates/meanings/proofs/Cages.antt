@@ -1,6 +1,6 @@
 -- A cage keeps its law.
 use Rattle.std.proofs.Common.{◌≡◌, ℕ, ◌<◌, true, not, eqb, List, [], ◌∷◌, map, get_or, sym, ◌∙◌, arith}
-use Rattle.std.specs.List.{range_with_len, flat_map, AllByRecursion as All}
+use Rattle.std.specs.List.{range_with_len, flat_map, AllByRecursion as Each}
 use Rattle.std.proofs.ByRecursion.{All-map}
 use Rattle.std.proofs.lemmas.Bool.{eq-eqb, eqb-true}
 use Rattle.std.proofs.lemmas.Bool.Decides.{nat_tests}
@@ -26,16 +26,16 @@ use Rattle.meanings.proofs.Sums.{digits_fit, fresh_fit, items_inside, items_leng
 
 -- the clauses of two cells, for any property of clauses
 module _ (P : Clause Atom → Type 0) (b : Board) (p q : ℕ) where
-  not_same_in : ((d : ℕ) → Digit b d → P (not_both (at p d) (at q d))) → All P (not_same b (p, q))
+  not_same_in : ((d : ℕ) → Digit b d → P (not_both (at p d) (at q d))) → Each P (not_same b (p, q))
   not_same_in h = All-map P _ (range_with_len 1 (side b)) (all_counting_in _ 1 (side b) (λ d low high. h d (low, omega arith)))
 
-  not_same_out : All P (not_same b (p, q)) → (d : ℕ) → Digit b d → P (not_both (at p d) (at q d))
+  not_same_out : Each P (not_same b (p, q)) → (d : ℕ) → Digit b d → P (not_both (at p d) (at q d))
   not_same_out h d i = all_counting_out _ 1 (side b) (all_map_out P _ (range_with_len 1 (side b)) h) d i.0 (omega arith)
 
 module _ (b : Board) where
   says_not_same : (p q : ℕ) → p < cells b → q < cells b → Says b (not_same b (p, q)) (λ g. not (eqb (get_or g p 0) (get_or g q 0)))
   says_not_same p q lp lq = record {
-    contained = not_same_in (λ c. All (λ l. Inside b 0 (variable l)) c) b p q (λ d i. omega arith);
+    contained = not_same_in (λ c. Each (λ l. Inside b 0 (variable l)) c) b p q (λ d i. omega arith);
     sized = not_same_in SizedClause b p q (λ d i. omega arith);
     means = λ g G fs.
         let Ok : Clause Atom → Type 0 = λ c. some_true (under (given g fs)) c ≡ true in (
@@ -45,14 +45,14 @@ module _ (b : Board) where
   }
 
   -- the cell c differs from each of the others
-  says_differs : (c : ℕ) → c < cells b → (qs : List ℕ) → All (λ q. q < cells b) qs →
+  says_differs : (c : ℕ) → c < cells b → (qs : List ℕ) → Each (λ q. q < cells b) qs →
       Says b (flat_map (not_same b) (map (λ q. (c, q)) qs)) (λ g. every (λ q. not (eqb (get_or g c 0) (get_or g q 0))) qs)
   says_differs c l [] on = says_nothing b
   says_differs c l (q ∷ qs) on =
       says_both b (not_same b (c, q)) (λ g. not (eqb (get_or g c 0) (get_or g q 0))) (says_not_same c q l on.0)
       (flat_map (not_same b) (map (λ q. (c, q)) qs)) (λ g. every (λ q. not (eqb (get_or g c 0) (get_or g q 0))) qs) (says_differs c l qs on.1)
 
-  says_no_repeat : (cs : List ℕ) → All (λ c. c < cells b) cs → Says b (no_repeat b cs) (λ g. differ g cs)
+  says_no_repeat : (cs : List ℕ) → Each (λ c. c < cells b) cs → Says b (no_repeat b cs) (λ g. differ g cs)
   says_no_repeat [] on = says_nothing b
   says_no_repeat (c ∷ cs) on =
       let e = joined_append (not_same b) (map (λ q. (c, q)) cs) (pairs cs) in

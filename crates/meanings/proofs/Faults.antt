@@ -1,6 +1,6 @@
 -- What is known of a part with which nothing is wrong.
 use Rattle.std.proofs.Common.{◌≡◌, ℕ, zero, suc, ◌+◌, ◌<◌, ◌≤◌, Bool, false, List, length, get_or, Some, None, Option, refl, subst, inl, inr, arith}
-use Rattle.std.specs.List.{range_with_len, AllByRecursion as All}
+use Rattle.std.specs.List.{range_with_len, AllByRecursion as Each}
 use Rattle.std.proofs.ByRecursion.{All-from_get_or}
 use Rattle.std.proofs.lemmas.Bool.{cases_Bool, cases_eq, leb-false}
 use Rattle.std.proofs.lemmas.Bool.Decides.{nat_tests}
@@ -28,7 +28,7 @@ module _ (bad : ℕ → Bool) (fault : ℕ → KindFault) where
   pub none_bad : (n : ℕ) → first_fault bad fault (range_with_len 0 n) ≡ None → (i : ℕ) → i < n → bad i ≡ false
   none_bad n h i l = none_from 0 n h i (omega arith) (omega arith)
 
-pub cells_on : (b : Board) (body : List ℕ) → cell_fault b body ≡ None → All (λ c. c < cells b) body
+pub cells_on : (b : Board) (body : List ℕ) → cell_fault b body ≡ None → Each (λ c. c < cells b) body
 cells_on b body h =
     All-from_get_or (λ c. c < cells b) body 0 (λ i l. leb-false (cells b) (get_or body i 0) (none_bad (beyond b body) Cell (length body) h i l))
 

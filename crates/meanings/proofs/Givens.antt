@@ -1,6 +1,6 @@
 -- Givens keep their law.
 use Rattle.std.proofs.Common.{◌≡◌, ℕ, ◌+◌, ◌<◌, ◌≤◌, true, false, not, eqb, List, [], ◌∷◌, length, get_or, None, inl, inr, arith}
-use Rattle.std.specs.List.{AllByRecursion as All}
+use Rattle.std.specs.List.{AllByRecursion as Each}
 use Rattle.std.proofs.ByRecursion.{All-from_get_or}
 use Rattle.std.proofs.lemmas.Bool.{cases_Bool}
 use Rattle.std.proofs.lemmas.Bool.Decides.{nat_tests}
@@ -19,7 +19,7 @@ use Rattle.meanings.proofs.Says.{Says, says_alone, says_both, says_nothing}
 
 module _ (b : Board) where
   -- each character is a blank or a digit
-  pub characters_fit : (body : List ℕ) → index_fault (λ i. not (fitting b (get_or body i 0))) Character body ≡ None → All (λ ch. fitting b ch ≡ true) body
+  pub characters_fit : (body : List ℕ) → index_fault (λ i. not (fitting b (get_or body i 0))) Character body ≡ None → Each (λ ch. fitting b ch ≡ true) body
   characters_fit body h =
       All-from_get_or (λ ch. fitting b ch ≡ true) body 0 (λ i l.
       let n = none_bad (λ i. not (fitting b (get_or body i 0))) Character (length body) h i l in grind arith)
@@ -34,7 +34,7 @@ module _ (b : Board) where
     means = λ g G fs. (λ h. grind arith, λ h. grind arith);
   }
 
-  says_stated : (c : ℕ) (chs : List ℕ) → c + length chs ≤ cells b → All (λ ch. fitting b ch ≡ true) chs → Says b (stated c chs) (λ g. shows g c chs)
+  says_stated : (c : ℕ) (chs : List ℕ) → c + length chs ≤ cells b → Each (λ ch. fitting b ch ≡ true) chs → Says b (stated c chs) (λ g. shows g c chs)
   says_stated c [] l h = says_nothing b
   says_stated c (ch ∷ chs) l h =
       let rest = says_stated (c + 1) chs (omega arith) h.1 in

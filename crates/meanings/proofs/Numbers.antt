@@ -1,6 +1,6 @@
 -- A sum as a totaller is handed it: by the numbers of its variables.
 use Rattle.std.proofs.Common.{◌≡◌, ℕ, zero, suc, ◌+◌, ◌*◌, ◌<◌, ◌≤◌, true, List, [], ◌∷◌, ◌++◌, map, length, get_or, pos, neg_ℤ, Some, None, sym, refl, ap, ◌∙◌, ap₂, mul-le-mul, inl, inr, append-nil, arith}
-use Rattle.std.specs.List.{range_with_len, AllByRecursion as All}
+use Rattle.std.specs.List.{range_with_len, AllByRecursion as Each}
 use Rattle.std.proofs.ByRecursion.{All-map}
 use Rattle.std.proofs.lemmas.List.{length-append, length-map}
 use Rattle.std.proofs.lemmas.List.FromFn.{length-map-range_with_len}
@@ -84,7 +84,7 @@ module _ (b : Board) (before : ℕ) where
         good_from f (number b before a) x n.0 (omega arith) (omega arith) w
 
     -- items are good up to one that is not, or to their end
-    good_upto : (atoms more : List Atom) (ws us : List ℕ) → All (Inside b 0) atoms → All Weight ws → length atoms ≡ length ws →
+    good_upto : (atoms more : List Atom) (ws us : List ℕ) → Each (Inside b 0) atoms → Each Weight ws → length atoms ≡ length ws →
         good_items f (map (number b before) (atoms ++ more)) (ws ++ us) ≡ length atoms + good_items f (map (number b before) more) us
     good_upto [] more [] us i w e = omega arith
     good_upto [] more (x ∷ ws) us i w e = absurd (omega arith)
@@ -99,7 +99,7 @@ module _ (b : Board) (before : ℕ) where
       abbrev ds : ℕ → List ℕ
       ds n = range_with_len 1 n
 
-      small_items : All (Inside b 0) atoms → All Weight ws → 1 ≤ length atoms → items_fault (map (number b before) atoms) ws f ≡ None
+      small_items : Each (Inside b 0) atoms → Each Weight ws → 1 ≤ length atoms → items_fault (map (number b before) atoms) ws f ≡ None
       small_items i w some =
           let n = length-map atoms (number b before) in
           let good = good_upto atoms [] ws [] i w same in
@@ -110,8 +110,8 @@ module _ (b : Board) (before : ℕ) where
       large_items n e big ea ew =
           let ea' = ea ∙ ap (λ k. map (at c) (ds k) ++ more) e in
           let ew' = ew ∙ ap (λ k. ds k ++ us) e in
-          let in_cell : All (Inside b 0) (map (at c) (ds 15)) = All-map (Inside b 0) (at c) (ds 15) (all_counting_in (λ d. Inside b 0 (at c d)) 1 15 (λ d low high. (on, (low, omega (arith, big))))) in
-          let first : All Weight (ds 15) = all_counting_in Weight 1 15 (λ d low high. (low, omega arith)) in
+          let in_cell : Each (Inside b 0) (map (at c) (ds 15)) = All-map (Inside b 0) (at c) (ds 15) (all_counting_in (λ d. Inside b 0 (at c d)) 1 15 (λ d low high. (on, (low, omega (arith, big))))) in
+          let first : Each Weight (ds 15) = all_counting_in Weight 1 15 (λ d low high. (low, omega arith)) in
           let stops = good_upto (map (at c) (ds 15)) (at c 16 ∷ more) (ds 15) (16 ∷ us) in_cell first refl in
           let none = bad_item f (number b before (at c 16)) (map (number b before) more) us in
           let good : good_items f (map (number b before) atoms) ws ≡ 15 = ap₂ (λ l u. good_items f (map (number b before) l) u) ea' ew' ∙ stops ∙ ap (λ k. 15 + k) none in
@@ -119,7 +119,7 @@ module _ (b : Board) (before : ℕ) where
           let n = length-map atoms (number b before) in
           faulty_from (map (number b before) atoms) ws f 15 (omega arith) (n ∙ same) good (omega arith)
 
-      pub items_large : All (Inside b 0) atoms → (side b ≤ 15 → All Weight ws) → 1 ≤ length atoms → atoms ≡ map (at c) (ds (side b)) ++ more → ws ≡ ds (side b) ++ us →
+      pub items_large : Each (Inside b 0) atoms → (side b ≤ 15 → Each Weight ws) → 1 ≤ length atoms → atoms ≡ map (at c) (ds (side b)) ++ more → ws ≡ ds (side b) ++ us →
           items_fault (map (number b before) atoms) ws f ≡ large_fault b
       items_large i w some ea ew =
           elim (cases_lt (side b) 16) [

@@ -1,6 +1,6 @@
 -- Formulas without fresh variables, and what they say of a grid.
 use Rattle.std.proofs.Common.{◌≡◌, ℕ, Bool, true, ◌&&◌, ◌↔◌, List, [], ◌++◌, sym, refl, ◌∙◌, arith}
-use Rattle.std.specs.List.{AllByRecursion as All}
+use Rattle.std.specs.List.{AllByRecursion as Each}
 use Rattle.std.proofs.ByRecursion.{All-append, All-weaker}
 use Rattle.std.proofs.lemmas.List.{nil_from_length}
 use Rattle.std.proofs.lemmas.Bool.{and_from, and_parts}
@@ -14,7 +14,7 @@ use Rattle.rules.specs.Rule.{Fulfils, given, Inside, Rule, Sound}
 -- the formula speaks of cells only, and holds just where the grid passes the test, whatever fresh variables are
 pub record Says (b : Board) (f : Formula Atom) (test : List ℕ → Bool) : Type 0 where
   pub contained : SpeaksOf (Inside b 0) f
-  pub sized : All SizedClause f
+  pub sized : Each SizedClause f
   pub means : (g : List ℕ) → Grid b g → (fs : List Bool) → Holds (under (given g fs)) f ↔ (test g ≡ true)
 
 -- what is a cell with a digit is inside, however many fresh variables there are

@@ -1,6 +1,6 @@
 -- A totaller that keeps its law makes sums over cells that do.
 use Rattle.std.proofs.Common.{◌≡◌, ℕ, zero, suc, ◌+◌, ◌*◌, ◌<◌, ◌≤◌, Bool, true, false, not, eqb, ◌≢◌, ◌↔◌, List, [], ◌∷◌, ◌++◌, map, length, get_or, None, sym, refl, ap, ◌∙◌, ap₂, inl, inr, arith}
-use Rattle.std.specs.List.{range_with_len, AllByRecursion as All}
+use Rattle.std.specs.List.{range_with_len, AllByRecursion as Each}
 use Rattle.std.specs.Option.{option_or}
 use Rattle.std.proofs.lemmas.List.FromFn.{length-range_with_len, length-map-range_with_len}
 use Rattle.std.proofs.ByRecursion.{All-append, All-get_or, All-map, All-weaker}
@@ -83,19 +83,19 @@ module _ (b : Board) where
   weights_length (c ∷ cs) = omega (arith, length-append (range_with_len 1 (side b)) (cell_weights b cs), length-range_with_len 1 (side b), weights_length cs)
 
   -- some digits of one cell
-  pub digits_inside : (c n : ℕ) → c < cells b → n ≤ side b → All (Inside b 0) (map (at c) (range_with_len 1 n))
+  pub digits_inside : (c n : ℕ) → c < cells b → n ≤ side b → Each (Inside b 0) (map (at c) (range_with_len 1 n))
   digits_inside c n l u = All-map (Inside b 0) (at c) (range_with_len 1 n) (all_counting_in _ 1 n (λ d low high. (l, (low, omega arith))))
 
   -- each item is a cell with a digit
-  pub items_inside : (cs : List ℕ) → All (λ c. c < cells b) cs → All (Inside b 0) (cell_items b cs)
+  pub items_inside : (cs : List ℕ) → Each (λ c. c < cells b) cs → Each (Inside b 0) (cell_items b cs)
   items_inside cs on = all_joined_in (Inside b 0) _ cs (All-weaker _ _ (λ c l. digits_inside c (side b) l (omega arith)) cs on)
 
-  pub weights_small : side b ≤ 15 → (cs : List ℕ) → All Weight (cell_weights b cs)
+  pub weights_small : side b ≤ 15 → (cs : List ℕ) → Each Weight (cell_weights b cs)
   weights_small small [] = tt
   weights_small small (c ∷ cs) =
       All-append Weight (range_with_len 1 (side b)) _ (all_counting_in Weight 1 (side b) (λ d low high. (low, omega (arith, small)))) (weights_small small cs)
 
-  pub total_digits : (g : List ℕ) → Grid b g → (cs : List ℕ) → All (λ c. c < cells b) cs → total (cell_weights b cs) (hot g (cell_items b cs)) ≡ digit_sum g cs
+  pub total_digits : (g : List ℕ) → Grid b g → (cs : List ℕ) → Each (λ c. c < cells b) cs → total (cell_weights b cs) (hot g (cell_items b cs)) ≡ digit_sum g cs
   total_digits g G [] on = refl
   total_digits g G (c ∷ cs) on =
       let n = side b in
@@ -108,7 +108,7 @@ module _ (b : Board) where
       (total_digits g G cs on.1)
 
 -- what the totaller's items are called, where they are cells with digits
-module _ (b : Board) (atoms : List Atom) (inside : All (Inside b 0) atoms) (m : ℕ) where
+module _ (b : Board) (atoms : List Atom) (inside : Each (Inside b 0) atoms) (m : ℕ) where
   abbrev Of : Item → Type 0
   Of = Known (length atoms) m
 
@@ -136,7 +136,7 @@ module _ (b : Board) (atoms : List Atom) (inside : All (Inside b 0) atoms) (m : 
 
 -- the rule of a sum, where the totaller keeps its law
 module _ (𝓣 : Totaller) (b : Board) (atoms : List Atom) (ws : List ℕ) (t : ℕ) (test : List ℕ → Bool)
-    (inside : All (Inside b 0) atoms) (same : length atoms ≡ length ws) (T : totaller.Sound 𝓣 ws t) where
+    (inside : Each (Inside b 0) atoms) (same : length atoms ≡ length ws) (T : totaller.Sound 𝓣 ws t) where
   abbrev count : ℕ
   count = 𝓣.fresh_count ws t
 
@@ -151,7 +151,7 @@ module _ (𝓣 : Totaller) (b : Board) (atoms : List Atom) (ws : List ℕ) (t : 
       All-map _ (map (literal atoms)) (𝓣.formula ws t)
       (All-weaker _ _ (λ c h. All-map _ (literal atoms) c (All-weaker _ _ (literal_inside b atoms inside count) c h)) (𝓣.formula ws t) known)
 
-  sized : All SizedClause sum_rule.formula
+  sized : Each SizedClause sum_rule.formula
   sized = All-map SizedClause (map (literal atoms)) (𝓣.formula ws t)
       (All-weaker _ _ (λ c h. let e = length-map c (literal atoms) in omega arith) (𝓣.formula ws t) T.sized)
 

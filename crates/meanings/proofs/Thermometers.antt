@@ -1,6 +1,6 @@
 -- A thermometer keeps its law.
 use Rattle.std.proofs.Common.{◌≡◌, ℕ, ◌<◌, ◌≤◌, true, ltb, List, [], ◌∷◌, get_or, arith}
-use Rattle.std.specs.List.{range_with_len, AllByRecursion as All}
+use Rattle.std.specs.List.{range_with_len, AllByRecursion as Each}
 use Rattle.std.proofs.ByRecursion.{All-map}
 use Rattle.std.proofs.lemmas.Bool.{lt-ltb, ltb-true}
 use Rattle.std.proofs.lemmas.Bool.Decides.{nat_tests}
@@ -22,12 +22,12 @@ use Rattle.meanings.proofs.Says.{Says, says_alone, says_both, says_nothing}
 
 -- the clauses of one step, for any property of clauses
 module _ (P : Clause Atom → Type 0) (b : Board) (p q : ℕ) where
-  below_in : ((d e : ℕ) → Digit b d → 1 ≤ e → e ≤ d → P (not_both (at p d) (at q e))) → All P (below b p q)
+  below_in : ((d e : ℕ) → Digit b d → 1 ≤ e → e ≤ d → P (not_both (at p d) (at q e))) → Each P (below b p q)
   below_in h =
       all_joined_in P _ (range_with_len 1 (side b)) (all_counting_in _ 1 (side b) (λ d ld ud.
       All-map P _ (range_with_len 1 d) (all_counting_in _ 1 d (λ e le ue. h d e (ld, omega arith) le (omega arith)))))
 
-  below_out : All P (below b p q) → (d e : ℕ) → Digit b d → 1 ≤ e → e ≤ d → P (not_both (at p d) (at q e))
+  below_out : Each P (below b p q) → (d e : ℕ) → Digit b d → 1 ≤ e → e ≤ d → P (not_both (at p d) (at q e))
   below_out h d e i l u =
       all_counting_out _ 1 d (all_map_out P _ (range_with_len 1 d)
       (all_counting_out _ 1 (side b) (all_joined_out P _ (range_with_len 1 (side b)) h) d i.0 (omega arith))) e l (omega arith)
@@ -35,7 +35,7 @@ module _ (P : Clause Atom → Type 0) (b : Board) (p q : ℕ) where
 module _ (b : Board) where
   says_below : (p q : ℕ) → p < cells b → q < cells b → Says b (below b p q) (λ g. ltb (get_or g p 0) (get_or g q 0))
   says_below p q lp lq = record {
-    contained = below_in (λ c. All (λ l. Inside b 0 (variable l)) c) b p q (λ d e i l u. omega arith);
+    contained = below_in (λ c. Each (λ l. Inside b 0 (variable l)) c) b p q (λ d e i l u. omega arith);
     sized = below_in SizedClause b p q (λ d e i l u. omega arith);
     means = λ g G fs.
         let Ok : Clause Atom → Type 0 = λ c. some_true (under (given g fs)) c ≡ true in (
@@ -49,7 +49,7 @@ module _ (b : Board) where
         );
   }
 
-  says_rising : (cs : List ℕ) → All (λ c. c < cells b) cs → Says b (rising b cs) (λ g. rises g cs)
+  says_rising : (cs : List ℕ) → Each (λ c. c < cells b) cs → Says b (rising b cs) (λ g. rises g cs)
   says_rising [] on = says_nothing b
   says_rising (p ∷ []) on = says_nothing b
   says_rising (p ∷ q ∷ cs) on =

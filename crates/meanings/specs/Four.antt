@@ -1,6 +1,6 @@
 -- Sets of kinds.
 use Rattle.std.specs.Prelude.{◌≡◌, ℕ, false, cond, List, [], ◌∷◌, Some, None, Option, ◌==◌}
-use Rattle.std.specs.List.{AllByRecursion as All}
+use Rattle.std.specs.List.{AllByRecursion as Each}
 use Rattle.meanings.specs.Kind.{Kind, Lawful}
 use Rattle.meanings.specs.Givens.{givens}
 use Rattle.meanings.specs.Cage.{cage}
@@ -14,7 +14,7 @@ find n (𝓚 ∷ 𝓚s) = cond (n == 𝓚.number) (Some 𝓚) (find n 𝓚s)
 
 -- no kind of the set has the number
 abbrev pub Absent : ℕ → List Kind → Type 0
-Absent n 𝓚s = All (λ 𝓚. (n == 𝓚.number) ≡ false) 𝓚s
+Absent n 𝓚s = Each (λ 𝓚. (n == 𝓚.number) ≡ false) 𝓚s
 
 -- no number stands twice
 abbrev pub Single : List Kind → Type 0
@@ -26,6 +26,6 @@ four = givens ∷ cage ∷ thermometer ∷ arrow ∷ []
 
 -- a set that a draft can have: each kind keeps its law, no number stands twice, and the four kinds are found by their numbers
 pub record Usable (𝓚s : List Kind) : Type 0 where
-  pub lawful : All Lawful 𝓚s
+  pub lawful : Each Lawful 𝓚s
   pub single : Single 𝓚s
-  pub four : All (λ 𝓚. find 𝓚.number 𝓚s ≡ Some 𝓚) four
+  pub four : Each (λ 𝓚. find 𝓚.number 𝓚s ≡ Some 𝓚) four

@@ -1,6 +1,6 @@
 -- The base formula holds just where the cells show a grid that breaks no row, column or box.
 use Rattle.std.proofs.Common.{◌≡◌, ℕ, ◌<◌, ◌≤◌, Bool, true, eqb, List, ◌++◌, get_or, sym, ◌∙◌, mul-le-mul, arith}
-use Rattle.std.specs.List.{range_with_len, AllByRecursion as All}
+use Rattle.std.specs.List.{range_with_len, AllByRecursion as Each}
 use Rattle.std.proofs.lemmas.List.FromFn.{length-map-range_with_len}
 use Rattle.std.proofs.ByRecursion.{All-append, All-map, All-get_or, All-from_get_or, All-weaker}
 use Rattle.std.proofs.lemmas.Bool.Decides.{nat_tests}
@@ -31,7 +31,7 @@ module _ (b : Board) (P : Clause Atom → Type 0) where
   abbrev Repeats : Type 0
   Repeats = (p q : ℕ) → p < q → q < cells b → Together b p q → (d : ℕ) → Digit b d → P (not_both (at p d) (at q d))
 
-  base_in : Digits → Twos → Repeats → All P (base b)
+  base_in : Digits → Twos → Repeats → Each P (base b)
   base_in D T R =
       All-append P (some_digit_each b) _
       (All-map P (some_digit b) (range_with_len 0 (cells b)) (all_counting_in _ 0 (cells b) (λ c _ l. D c (omega arith))))
@@ -39,15 +39,15 @@ module _ (b : Board) (P : Clause Atom → Type 0) where
       (all_joined_in P (no_two_digits b) (range_with_len 0 (cells b)) (all_counting_in _ 0 (cells b) (λ c _ l.
       All-map P _ (pairs (range_with_len 1 (side b))) (all_pairs_in _ 1 (side b) (λ x y lx m ly. T c (omega arith) x y lx m (omega arith))))))
       (all_joined_in P (no_repeat b) (lines b) (All-weaker _ _ (λ l. all_joined_in P (not_same b) (pairs l)) (lines b)
-      (lines_in b (λ p. All P (not_same b p)) (λ p q l u t.
+      (lines_in b (λ p. Each P (not_same b p)) (λ p q l u t.
       All-map P _ (range_with_len 1 (side b)) (all_counting_in _ 1 (side b) (λ d ld ud. R p q l u t d (ld, omega arith))))))))
 
-  module _ (h : All P (base b)) where
+  module _ (h : Each P (base b)) where
     digits_out : Digits
     digits_out c l =
         all_counting_out _ 0 (cells b) (all_map_out P (some_digit b) (range_with_len 0 (cells b)) (all_left P _ _ h)) c (omega arith) (omega arith)
 
-    after_digits : All P (one_digit_each b ++ each_line_apart b)
+    after_digits : Each P (one_digit_each b ++ each_line_apart b)
     after_digits = all_right P (some_digit_each b) _ h
 
     twos_out : Twos
@@ -59,7 +59,7 @@ module _ (b : Board) (P : Clause Atom → Type 0) where
     repeats_out : Repeats
     repeats_out p q l u t d i =
         all_counting_out _ 1 (side b) (all_map_out P _ (range_with_len 1 (side b))
-        (lines_out b (λ p. All P (not_same b p)) (All-weaker _ _ (λ l. all_joined_out P (not_same b) (pairs l)) (lines b)
+        (lines_out b (λ p. Each P (not_same b p)) (All-weaker _ _ (λ l. all_joined_out P (not_same b) (pairs l)) (lines b)
         (all_joined_out P (no_repeat b) (lines b) (all_right P (one_digit_each b) _ after_digits))) p q l u t))
         d i.0 (omega arith)
 
@@ -69,12 +69,12 @@ module _ (b : Board) where
 
   pub base_contained : (m : ℕ) → SpeaksOf (Inside b m) (base b)
   base_contained m =
-      base_in b (λ c. All (λ l. Inside b m (variable l)) c)
+      base_in b (λ c. Each (λ l. Inside b m (variable l)) c)
       (λ c l. All-map _ (λ d. is (at c d)) (range_with_len 1 (side b)) (all_counting_in _ 1 (side b) (λ d ld ud. omega arith)))
       (λ c l x y lx k ly. omega arith)
       (λ p q l u t d i. omega arith)
 
-  pub base_sized : All SizedClause (base b)
+  pub base_sized : Each SizedClause (base b)
   base_sized =
       let some : 1 ≤ side b = mul-le-mul b.tall b.wide in
       base_in b SizedClause

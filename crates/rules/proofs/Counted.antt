@@ -1,6 +1,6 @@
 -- Each clause has 1 to 16 literals, and each literal is a variable that is counted, or its negation.
 use Rattle.std.proofs.Common.{◌≡◌, ℕ, zero, suc, ◌+◌, ◌*◌, ◌<◌, ◌≤◌, true, leb, List, [], ◌∷◌, map, length, ℤ, pos, neg_ℤ, nat_abs, refl, arith}
-use Rattle.std.specs.List.{AllByRecursion as All}
+use Rattle.std.specs.List.{AllByRecursion as Each}
 use Rattle.std.proofs.ByRecursion.{All-append, All-map, All-weaker}
 use Rattle.std.proofs.lemmas.Nat.{mul-add-lt}
 use Rattle.std.proofs.lemmas.List.{length-map}
@@ -16,7 +16,7 @@ use Rattle.rules.specs.Clauses.{clauses, fresh_total, rule_clauses, variables}
 use Rattle.rules.specs.Rule.{Inside, Rule, Sound}
 use Rattle.rules.proofs.Base.{base_contained, base_sized}
 
-numbered_sized : (b : Board) (before : ℕ) (f : Formula Atom) → All SizedClause f → All (λ c. right_length c ≡ true) (numbered (number b before) f)
+numbered_sized : (b : Board) (before : ℕ) (f : Formula Atom) → Each SizedClause f → Each (λ c. right_length c ≡ true) (numbered (number b before) f)
 numbered_sized b before f s = All-map (λ c. right_length c ≡ true) (map (signed (number b before))) f (All-weaker _ _ right f s)
   where
     right : (c : Clause Atom) → SizedClause c → right_length (map (signed (number b before)) c) ≡ true
@@ -25,13 +25,13 @@ numbered_sized b before f s = All-map (λ c. right_length c ≡ true) (map (sign
         let e = length-map c (signed (number b before)) in
         and_from (leb 1 (length d)) (leb (length d) 16) (le-leb 1 (length d) (omega arith)) (le-leb (length d) 16 (omega arith))
 
-rules_sized : (b : Board) (before : ℕ) (rs : List Rule) → All (Sound b) rs → All (λ c. right_length c ≡ true) (rule_clauses b before rs)
+rules_sized : (b : Board) (before : ℕ) (rs : List Rule) → Each (Sound b) rs → Each (λ c. right_length c ≡ true) (rule_clauses b before rs)
 rules_sized b before [] S = tt
 rules_sized b before (r ∷ rs) S =
     All-append _ (numbered (number b before) r.formula) _
     (numbered_sized b before r.formula S.0.sized) (rules_sized b (before + r.fresh_count) rs S.1)
 
-pub clauses_sized : (b : Board) (rs : List Rule) → All (Sound b) rs → All (λ c. right_length c ≡ true) (clauses b rs)
+pub clauses_sized : (b : Board) (rs : List Rule) → Each (Sound b) rs → Each (λ c. right_length c ≡ true) (clauses b rs)
 clauses_sized b rs S =
     All-append _ (clauses_of b (base b)) _
     (numbered_sized b (cell_variables b) (base b) (base_sized b)) (rules_sized b (cell_variables b) rs S)
@@ -58,20 +58,20 @@ module _ (b : Board) (n : ℕ) where
     signed_upto (is a) i = number_upto a i
     signed_upto (isnt a) i = rw same_size (number_upto a i)
 
-    numbered_upto : (f : Formula Atom) → SpeaksOf (Inside b m) f → All (All (Upto n)) (numbered (number b before) f)
+    numbered_upto : (f : Formula Atom) → SpeaksOf (Inside b m) f → Each (Each (Upto n)) (numbered (number b before) f)
     numbered_upto f s =
-        All-map (All (Upto n)) (map (signed (number b before))) f
+        All-map (Each (Upto n)) (map (signed (number b before))) f
         (All-weaker _ _ (λ c i. All-map (Upto n) (signed (number b before)) c (All-weaker _ _ signed_upto c i)) f s)
 
-  rules_upto : (before : ℕ) (rs : List Rule) → All (Sound b) rs → cell_variables b ≤ before → before + fresh_total rs ≤ n →
-      All (All (Upto n)) (rule_clauses b before rs)
+  rules_upto : (before : ℕ) (rs : List Rule) → Each (Sound b) rs → cell_variables b ≤ before → before + fresh_total rs ≤ n →
+      Each (Each (Upto n)) (rule_clauses b before rs)
   rules_upto before [] S l u = tt
   rules_upto before (r ∷ rs) S l u =
       All-append _ (numbered (number b before) r.formula) _
       (numbered_upto before r.fresh_count l (omega arith) r.formula S.0.contained)
       (rules_upto (before + r.fresh_count) rs S.1 (omega arith) (omega arith))
 
-pub clauses_upto : (b : Board) (rs : List Rule) → All (Sound b) rs → All (All (Upto (variables b rs))) (clauses b rs)
+pub clauses_upto : (b : Board) (rs : List Rule) → Each (Sound b) rs → Each (Each (Upto (variables b rs))) (clauses b rs)
 clauses_upto b rs S =
     All-append _ (clauses_of b (base b)) _
     (numbered_upto b (variables b rs) (cell_variables b) 0 (omega arith) (omega arith) (base b) (base_contained b 0))

@@ -1,6 +1,6 @@
 -- What holds of each element of lists that are put together.
 use Rattle.std.proofs.Common.{◌≡◌, ℕ, zero, suc, ◌+◌, ◌<◌, ◌≤◌, Bool, true, List, [], ◌∷◌, ◌++◌, map, length, get_or, filter, refl, ap, subst, inl, inr, not-suc-le-zero, arith}
-use Rattle.std.specs.List.{range_with_len, AllByRecursion as All}
+use Rattle.std.specs.List.{range_with_len, AllByRecursion as Each}
 use Rattle.std.proofs.ByRecursion.{All-append, All-map}
 use Rattle.std.proofs.lemmas.Bool.{cases_eq, cases_Bool}
 use Rattle.formulas.proofs.All.{all_left, all_map_out, all_right}
@@ -8,20 +8,20 @@ use Rattle.boards.specs.Board.{pairs}
 
 -- of the numbers that pass the test t
 module _ (t : ℕ → Bool) where
-  pub kept_out : (P : ℕ → Type 0) (a n : ℕ) → All P (filter t (range_with_len a n)) → (k : ℕ) → a ≤ k → k < a + n → t k ≡ true → P k
+  pub kept_out : (P : ℕ → Type 0) (a n : ℕ) → Each P (filter t (range_with_len a n)) → (k : ℕ) → a ≤ k → k < a + n → t k ≡ true → P k
   kept_out P a zero h k l u p = absurd (omega arith)
   kept_out P a (suc n) h k l u p =
       elim (cases_Bool (t a)) [
         | inl e ↦
-            let g : P a × All P (filter t (range_with_len (a + 1) n)) = rw e at h in
+            let g : P a × Each P (filter t (range_with_len (a + 1) n)) = rw e at h in
             elim (cases_eq a k) [ inl f ↦ subst P f g.0 | inr f ↦ kept_out P (a + 1) n g.1 k (omega arith) (omega arith) p ]
         | inr e ↦
-            let g : All P (filter t (range_with_len (a + 1) n)) = rw e at h in
+            let g : Each P (filter t (range_with_len (a + 1) n)) = rw e at h in
             let ne : a ≡ k → ⊥ = λ f. grind (arith, ap t f) in
             kept_out P (a + 1) n g k (omega arith) (omega arith) p
       ]
 
-  pub kept_in : (P : ℕ → Type 0) (a n : ℕ) → ((k : ℕ) → a ≤ k → k < a + n → t k ≡ true → P k) → All P (filter t (range_with_len a n))
+  pub kept_in : (P : ℕ → Type 0) (a n : ℕ) → ((k : ℕ) → a ≤ k → k < a + n → t k ≡ true → P k) → Each P (filter t (range_with_len a n))
   kept_in P a zero h = tt
   kept_in P a (suc n) h =
       let ih = kept_in P (a + 1) n (λ k l u p. h k (omega arith) (omega arith) p) in
@@ -30,14 +30,14 @@ module _ (t : ℕ → Bool) where
         | inr e ↦ rw e ih
       ]
 
-  pub pairs_out : (P : ℕ × ℕ → Type 0) (a n : ℕ) → All P (pairs (filter t (range_with_len a n))) →
+  pub pairs_out : (P : ℕ × ℕ → Type 0) (a n : ℕ) → Each P (pairs (filter t (range_with_len a n))) →
       (x y : ℕ) → a ≤ x → x < y → y < a + n → t x ≡ true → t y ≡ true → P (x, y)
   pairs_out P a zero h x y l m u p q = absurd (omega arith)
   pairs_out P a (suc n) h x y l m u p q =
       let k = filter t (range_with_len (a + 1) n) in
       elim (cases_Bool (t a)) [
         | inl e ↦
-            let g : All P (map (λ z. (a, z)) k ++ pairs k) = rw e at h in
+            let g : Each P (map (λ z. (a, z)) k ++ pairs k) = rw e at h in
             elim (cases_eq a x) [
               | inl f ↦ subst (λ z. P (z, y)) f
                   (kept_out (λ z. P (a, z)) (a + 1) n (all_map_out P (λ z. (a, z)) k (all_left P _ _ g)) y (omega arith) (omega arith) q)
@@ -49,7 +49,7 @@ module _ (t : ℕ → Bool) where
       ]
 
   pub pairs_in : (P : ℕ × ℕ → Type 0) (a n : ℕ) →
-      ((x y : ℕ) → a ≤ x → x < y → y < a + n → t x ≡ true → t y ≡ true → P (x, y)) → All P (pairs (filter t (range_with_len a n)))
+      ((x y : ℕ) → a ≤ x → x < y → y < a + n → t x ≡ true → t y ≡ true → P (x, y)) → Each P (pairs (filter t (range_with_len a n)))
   pairs_in P a zero h = tt
   pairs_in P a (suc n) h =
       let k = filter t (range_with_len (a + 1) n) in
@@ -64,10 +64,10 @@ kept_all : (a n : ℕ) → filter (λ _. true) (range_with_len a n) ≡ range_wi
 kept_all a zero = refl
 kept_all a (suc n) = ap (λ l. a ∷ l) (kept_all (a + 1) n)
 
-pub all_pairs_out : (P : ℕ × ℕ → Type 0) (a n : ℕ) → All P (pairs (range_with_len a n)) → (x y : ℕ) → a ≤ x → x < y → y < a + n → P (x, y)
+pub all_pairs_out : (P : ℕ × ℕ → Type 0) (a n : ℕ) → Each P (pairs (range_with_len a n)) → (x y : ℕ) → a ≤ x → x < y → y < a + n → P (x, y)
 all_pairs_out P a n h x y l m u = pairs_out (λ _. true) P a n (rw kept_all h) x y l m u refl refl
 
-pub all_pairs_in : (P : ℕ × ℕ → Type 0) (a n : ℕ) → ((x y : ℕ) → a ≤ x → x < y → y < a + n → P (x, y)) → All P (pairs (range_with_len a n))
+pub all_pairs_in : (P : ℕ × ℕ → Type 0) (a n : ℕ) → ((x y : ℕ) → a ≤ x → x < y → y < a + n → P (x, y)) → Each P (pairs (range_with_len a n))
 all_pairs_in P a n h = rw kept_all at (pairs_in (λ _. true) P a n (λ x y l m u p q. h x y l m u))
 
 -- a choice for each place, as a list

@@ -1,6 +1,6 @@
 -- A board under sound rules keeps the promise about counting.
 use Rattle.std.proofs.Common.{◌≡◌, ℕ, ◌+◌, ◌-◌, ◌*◌, ◌/◌, ◌%◌, ◌<◌, ◌≤◌, Bool, true, false, cond, eqb, List, ◌++◌, map, length, get_or, Ok, sym, refl, ap, ◌∙◌, ap₂, inl, inr, arith}
-use Rattle.std.specs.List.{range_with_len, AllByRecursion as All}
+use Rattle.std.specs.List.{range_with_len, AllByRecursion as Each}
 use Rattle.std.proofs.lemmas.Nat.{div-add-mod', div_below, div-mul-add, mod_below, mod-mul-add, mul-add-lt}
 use Rattle.std.proofs.lemmas.List.FromFn.{get_or-map-range_with_len, length-map-range_with_len}
 use Rattle.std.proofs.ByRecursion.{All-append, All-from_get_or, All-map}
@@ -90,7 +90,7 @@ module _ (b : Board) (g : List ℕ) where
         ap (λ i. get_or (map byte fs) i 0) d ∙ get_or-map byte fs j false 0 l) ∙
         byte_is (get_or fs j false)
 
-    model_bytes : All (λ x. x ≤ 1) model_of
+    model_bytes : Each (λ x. x ≤ 1) model_of
     model_bytes =
         All-append _ cell_bytes _
         (All-map _ (λ k. byte (hot k)) (range_with_len 0 v) (All-from_get_or _ _ 0 (λ i l. byte_small _)))
@@ -99,7 +99,7 @@ module _ (b : Board) (g : List ℕ) where
     model_size : length model_of ≡ v + length fs
     model_size = length-append cell_bytes (map byte fs) ∙ ap₂ ◌+◌ (length-map-range_with_len _ 0 v) (length-map fs byte)
 
-module _ (b : Board) (rs : List Rule) (S : All (Sound b) rs) where
+module _ (b : Board) (rs : List Rule) (S : Each (Sound b) rs) where
   base_of : (m : List ℕ) → Model b rs m → Holds (under (shown_by b m)) (base b)
   base_of m M =
       numbered_out m M.bytes b (cell_variables b) 0 (shown_by b m) (λ a i. refl) (base b) (base_contained b 0)

@@ -1,6 +1,6 @@
 -- The rules one after another, under bytes whose cells show a grid that repeats no digit.
 use Rattle.std.proofs.Common.{◌≡◌, ℕ, ◌+◌, ◌-◌, ◌<◌, ◌≤◌, Bool, true, false, List, [], ◌∷◌, ◌++◌, map, length, get_or, pos, sym, refl, ap, ◌∙◌, ap₂, inl, inr, not-suc-le-zero, arith}
-use Rattle.std.specs.List.{range_with_len, AllByRecursion as All}
+use Rattle.std.specs.List.{range_with_len, AllByRecursion as Each}
 use Rattle.std.proofs.lemmas.List.FromFn.{get_or-map-range_with_len, length-map-range_with_len}
 use Rattle.std.proofs.lemmas.List.{get_or_append_left, get_or-append_right, length-append}
 use Rattle.std.proofs.lemmas.Bool.{cases_lt}
@@ -30,7 +30,7 @@ HasFresh m before n fs = (j : ℕ) → j < n → true_in m (pos (before + 1 + j)
 
 -- bytes that are 0 or 1, with cells that show the grid g
 pub record Showing (b : Board) (g m : List ℕ) : Type 0 where
-  pub bytes : All (λ x. x ≤ 1) m
+  pub bytes : Each (λ x. x ≤ 1) m
   pub agrees : Agrees b (shown_by b m) g
 
 module _ (b : Board) (g : List ℕ) where
@@ -51,8 +51,8 @@ module _ (b : Board) (g : List ℕ) where
         }
 
     -- the clauses of each rule say that the grid keeps it
-    pub keeps_all : (m : List ℕ) → Showing b g m → (before : ℕ) (rs : List Rule) → All (Sound b) rs →
-        Holds (true_in m) (rule_clauses b before rs) → All (λ r. r.keeps g ≡ true) rs
+    pub keeps_all : (m : List ℕ) → Showing b g m → (before : ℕ) (rs : List Rule) → Each (Sound b) rs →
+        Holds (true_in m) (rule_clauses b before rs) → Each (λ r. r.keeps g ≡ true) rs
     keeps_all m s before [] S h = tt
     keeps_all m s before (r ∷ rs) S h =
         let f = numbered (number b before) r.formula in (
@@ -61,7 +61,7 @@ module _ (b : Board) (g : List ℕ) where
         )
 
     -- two lists of bytes have the same fresh values
-    pub same_fresh : (m m' : List ℕ) → Showing b g m → Showing b g m' → (before : ℕ) (rs : List Rule) → All (Sound b) rs →
+    pub same_fresh : (m m' : List ℕ) → Showing b g m → Showing b g m' → (before : ℕ) (rs : List Rule) → Each (Sound b) rs →
         Holds (true_in m) (rule_clauses b before rs) → Holds (true_in m') (rule_clauses b before rs) →
         (j : ℕ) → j < fresh_total rs → true_in m (pos (before + 1 + j)) ≡ true_in m' (pos (before + 1 + j))
     same_fresh m m' s s' before [] S h h' j l = absurd (not-suc-le-zero l)
@@ -99,7 +99,7 @@ module _ (b : Board) (g : List ℕ) where
               rw e (k (n + j) (omega arith) ∙ get_or-append_right fs hs n (n + j) false F.size (omega arith) ∙ ap (λ i. get_or hs i false) d)));
         }
 
-    pub found : (before : ℕ) (rs : List Rule) → All (Sound b) rs → All (λ r. r.keeps g ≡ true) rs → (fs : List Bool) × Found before rs fs
+    pub found : (before : ℕ) (rs : List Rule) → Each (Sound b) rs → Each (λ r. r.keeps g ≡ true) rs → (fs : List Bool) × Found before rs fs
     found before [] S k = ([], record { size = refl; holds = λ m s h. tt })
     found before (r ∷ rs) S k =
         let (fs, F) = (S.0.exact g G clean).some k.0 in

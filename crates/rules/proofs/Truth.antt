@@ -1,6 +1,6 @@
 -- A formula under numbers says of the bytes what it says of its own variables.
 use Rattle.std.proofs.Common.{◌≡◌, ℕ, zero, suc, ◌-◌, ◌≤◌, Bool, not, ◌||◌, List, [], ◌∷◌, map, get_or, pos, neg_ℤ, sym, refl, ap, ◌∙◌, ap₂, not-suc-le-zero, arith}
-use Rattle.std.specs.List.{AllByRecursion as All}
+use Rattle.std.specs.List.{AllByRecursion as Each}
 use Rattle.std.proofs.lemmas.Bool.Decides.{nat_tests}
 use Rattle.formulas.specs.Formula.{Literal, is, isnt, Formula, Holds, some_true, SpeaksOf, under, variable}
 use Rattle.formulas.specs.Numbered.{numbered, signed}
@@ -11,24 +11,24 @@ use Rattle.rules.specs.Rule.{Inside}
 
 -- a formula under other literals, each as true as the one that it stands for
 module _ {K L : Type 0} (p : L → Bool) (q : K → Bool) (f : K → L) (P : K → Type 0) (same : (k : K) → P k → p (f k) ≡ q k) where
-  clause_mapped : (c : List K) → All P c → some_true p (map f c) ≡ some_true q c
+  clause_mapped : (c : List K) → Each P c → some_true p (map f c) ≡ some_true q c
   clause_mapped [] h = refl
   clause_mapped (k ∷ c) h = ap₂ ◌||◌ (same k h.0) (clause_mapped c h.1)
 
-  pub mapped_out : (g : List (List K)) → All (All P) g → Holds p (map (map f) g) → Holds q g
+  pub mapped_out : (g : List (List K)) → Each (Each P) g → Holds p (map (map f) g) → Holds q g
   mapped_out [] i h = tt
   mapped_out (c ∷ g) i h = (sym (clause_mapped c i.0) ∙ h.0, mapped_out g i.1 h.1)
 
-  pub mapped_in : (g : List (List K)) → All (All P) g → Holds q g → Holds p (map (map f) g)
+  pub mapped_in : (g : List (List K)) → Each (Each P) g → Holds q g → Holds p (map (map f) g)
   mapped_in [] i h = tt
   mapped_in (c ∷ g) i h = (clause_mapped c i.0 ∙ h.0, mapped_in g i.1 h.1)
 
 -- bytes that are 0 or 1
-module _ (m : List ℕ) (bytes : All (λ x. x ≤ 1) m) where
+module _ (m : List ℕ) (bytes : Each (λ x. x ≤ 1) m) where
   pub small : (k : ℕ) → get_or m k 0 ≤ 1
   small k = go m bytes k
     where
-      go : (m : List ℕ) → All (λ x. x ≤ 1) m → (k : ℕ) → get_or m k 0 ≤ 1
+      go : (m : List ℕ) → Each (λ x. x ≤ 1) m → (k : ℕ) → get_or m k 0 ≤ 1
       go [] h k = omega arith
       go (x ∷ m) h zero = h.0
       go (x ∷ m) h (suc k) = go m h.1 k

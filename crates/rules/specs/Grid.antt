@@ -1,6 +1,6 @@
 -- Grids, and when one repeats no digit.
 use Rattle.std.specs.Prelude.{◌≡◌, ℕ, ◌<◌, ◌≤◌, ◌≢◌, ◌⊎◌, List, length, slice_index}
-use Rattle.std.specs.List.{AllByRecursion as All}
+use Rattle.std.specs.List.{AllByRecursion as Each}
 use Rattle.boards.specs.declared.board.Board.{Board}
 use Rattle.boards.specs.Board.{box_of, cells, column_of, row_of, side}
 
@@ -10,7 +10,7 @@ Digit b d = (1 ≤ d) × (d ≤ side b)
 -- a digit for each cell
 pub record Grid (b : Board) (g : List ℕ) : Type 0 where
   pub size : length g ≡ cells b
-  pub digits : All (Digit b) g
+  pub digits : Each (Digit b) g
 
 -- one row, column or box has both cells
 abbrev pub Together : Board → ℕ → ℕ → Type 0

@@ -1,6 +1,6 @@
 -- What one part asks of a grid, the formula that says so, and the law between the two.
 use Rattle.std.specs.Prelude.{◌≡◌, ℕ, ◌<◌, Bool, true, false, List, length, ◌==◌, slice_index, slice_index_or}
-use Rattle.std.specs.List.{AllByRecursion as All}
+use Rattle.std.specs.List.{AllByRecursion as Each}
 use Rattle.formulas.specs.Formula.{Formula, Holds, SizedClause, SpeaksOf, under}
 use Rattle.boards.specs.declared.board.Board.{Board}
 use Rattle.boards.specs.Board.{cells}
@@ -38,5 +38,5 @@ pub record Exact (r : Rule) (g : List ℕ) : Type 0 where
 pub record Sound (b : Board) (r : Rule) : Type 0 where
   -- it speaks of the board's cells and of its own fresh variables only, in clauses of 1 to 16 literals
   pub contained : SpeaksOf (Inside b r.fresh_count) r.formula
-  pub sized : All SizedClause r.formula
+  pub sized : Each SizedClause r.formula
   pub exact : (g : List ℕ) → Grid b g → Clean b g → Exact r g

@@ -1,6 +1,6 @@
 -- What a cage and an arrow write, where nothing is wrong with them.
 use Rattle.std.proofs.Common.{◌≡◌, ℕ, ◌+◌, ◌-◌, ◌*◌, ◌<◌, ◌≤◌, true, false, List, [], ◌++◌, map, length, None, sym, ap, ◌∙◌, ap₂, subst, append_assoc, mul-le-mul, arith}
-use Rattle.std.specs.List.{range_with_len, AllByRecursion as All}
+use Rattle.std.specs.List.{range_with_len, AllByRecursion as Each}
 use Rattle.std.proofs.ByRecursion.{All-drop}
 use Rattle.std.proofs.lemmas.List.{length-drop, length-map, map-append}
 use Rattle.std.proofs.lemmas.Bool.{le-leb, lt-leb}
@@ -58,7 +58,7 @@ module _ (𝓣 : Totaller) {P : Type 0} (𝓟 : Ghosts P) (b : Board) (total : �
         let some : 1 * 1 ≤ length body * side b = mul-le-mul least (side_some b) in
         let on = cells_on b body cage_parts.1 in
         let (c, rest, e) = first_of body least in
-        items_large b 0 f (behind_cells b f first) c (subst (All (λ q. q < cells b)) e on).0 (cell_items b body) (cell_items b rest) (cell_weights b body) (cell_weights b rest)
+        items_large b 0 f (behind_cells b f first) c (subst (Each (λ q. q < cells b)) e on).0 (cell_items b body) (cell_items b rest) (cell_weights b body) (cell_weights b rest)
         (items_length b body ∙ sym (weights_length b body)) (items_inside b body on) (λ l. weights_small b l body) (omega (arith, some, items_length b body))
         (ap (cell_items b) e) (ap (cell_weights b) e)
 
@@ -105,7 +105,7 @@ module _ (𝓣 : Totaller) {P : Type 0} (𝓟 : Ghosts P) (b : Board) (total : �
         let (c, rest, e) = first_of (shaft body) least in
         let more = map (at (circle body)) (range_with_len 1 (side b - 1)) in
         let us = map (λ d. side b - d) (range_with_len 1 (side b - 1)) in
-        items_large b 0 f (behind_cells b f first) c (subst (All (λ q. q < cells b)) e (All-drop (λ q. q < cells b) 1 body on)).0
+        items_large b 0 f (behind_cells b f first) c (subst (Each (λ q. q < cells b)) e (All-drop (λ q. q < cells b) 1 body on)).0
         (arrow_items b body) (cell_items b rest ++ more) (arrow_weights b body) (cell_weights b rest ++ us)
         (arrow_items_length b body ∙ sym (arrow_weights_length b body)) (arrow_items_inside b body (omega (arith, long)) on) (λ l. arrow_weights_small b body l)
         (omega (arith, some, arrow_items_length b body))

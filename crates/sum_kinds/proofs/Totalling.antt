@@ -1,6 +1,6 @@
 -- A part that writes clauses of its own, without a fresh variable, and then a sum.
 use Rattle.std.proofs.Common.{◌≡◌, ℕ, ◌+◌, ◌-◌, ◌<◌, ◌≤◌, List, [], ◌∷◌, ◌++◌, map, length, None, sym, refl, ap, ◌∙◌, ap₂, arith}
-use Rattle.std.specs.List.{range_with_len, flat_map, AllByRecursion as All}
+use Rattle.std.specs.List.{range_with_len, flat_map, AllByRecursion as Each}
 use Rattle.std.specs.Option.{option_or}
 use Rattle.std.proofs.lemmas.Bool.Decides.{nat_tests}
 use Rattle.formulas.specs.Numbered.{numbered}
@@ -22,7 +22,7 @@ cell_same : (b : Board) (x y : ℕ) (a : Atom) → Inside b 0 a → number b x a
 cell_same b x y (at c d) i = refl
 cell_same b x y (fresh j) i = absurd (omega arith)
 
-pub cells_same : (b : Board) (x y : ℕ) (atoms : List Atom) → All (Inside b 0) atoms → map (number b x) atoms ≡ map (number b y) atoms
+pub cells_same : (b : Board) (x y : ℕ) (atoms : List Atom) → Each (Inside b 0) atoms → map (number b x) atoms ≡ map (number b y) atoms
 cells_same b x y [] i = refl
 cells_same b x y (a ∷ atoms) i = ap₂ ◌∷◌ (cell_same b x y a i.0) (cells_same b x y atoms i.1)
 
@@ -43,7 +43,7 @@ no_repeat_as b f cs =
 pub behind_cells : (b : Board) (f : ℕ) → first_number_fault b f ≡ None → cell_variables b < f
 behind_cells b f h = grind (arith, nat_tests)
 
-module _ (𝓣 : Totaller) (b : Board) (atoms : List Atom) (ws : List ℕ) (t f : ℕ) (inside : All (Inside b 0) atoms) (behind : cell_variables b < f) where
+module _ (𝓣 : Totaller) (b : Board) (atoms : List Atom) (ws : List ℕ) (t f : ℕ) (inside : Each (Inside b 0) atoms) (behind : cell_variables b < f) where
   -- the totaller's clauses
   pub sum_is : clauses_from b f (sum_formula 𝓣 atoms ws t) ≡ sum_clauses 𝓣 (map (number b 0) atoms) ws t f
   sum_is =

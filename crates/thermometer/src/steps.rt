@@ -1,6 +1,6 @@
 // The steps from each cell to the next.
 ghost use Rattle.std.specs.Prelude.{◌≡◌, ◌<◌, ◌≤◌, map, length};
-ghost use Rattle.std.specs.List.{range_with_len, AllByRecursion as All};
+ghost use Rattle.std.specs.List.{range_with_len, AllByRecursion as Each};
 ghost use Rattle.std.specs.Result.{result_err};
 ghost use Rattle.places.specs.Written.{Writes};
 ghost use Rattle.boards.specs.Atoms.{at};
@@ -13,8 +13,8 @@ use places::{Place, PlaceFault};
 
 // Whether the grid's digits rise over the cells.
 pub(crate) fn rises(cells: &[u8], grid: &[u8]) -> bool
-    requires cells { All (λ c. c < length grid.now) cells.now }
-    requires digits { All (λ d. 1 ≤ d) grid.now }
+    requires cells { Each (λ c. c < length grid.now) cells.now }
+    requires digits { Each (λ d. 1 ≤ d) grid.now }
     ensures { result ≡ meaning.rises grid.now cells.now }
 {
     let mut previous = 0;

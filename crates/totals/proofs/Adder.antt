@@ -2,7 +2,7 @@
 use Rattle.std.proofs.Common.{◌≡◌, ℕ, zero, suc, ◌+◌, ◌*◌, ◌<◌, ◌≤◌, Bool, true, false, cond, List, [], ◌∷◌, refl, arith}
 use Rattle.formulas.specs.Formula.{Holds, under}
 use Rattle.totals.specs.Items.{Item, fresh, Valuation, Known, Contained}
-use Rattle.std.specs.List.{AllByRecursion as All}
+use Rattle.std.specs.List.{AllByRecursion as Each}
 use Rattle.totals.specs.Adders.{Adder, full, half, adder_clauses}
 
 abbrev pub bit : Bool → ℕ
@@ -41,6 +41,6 @@ two_bits (suc (suc (suc (suc m)))) l = absurd (omega arith)
 pub same_bits : (s t s' t' : Bool) → bit s + 2 * bit t ≡ bit s' + 2 * bit t' → (s ≡ s') × (t ≡ t')
 same_bits s t s' t' e = grind arith
 
-pub adder_contained : (c m n : ℕ) (g : Adder Item) → n + 1 < m → All (Known c m) (inputs g) → Contained c m (adder_clauses fresh n g)
+pub adder_contained : (c m n : ℕ) (g : Adder Item) → n + 1 < m → Each (Known c m) (inputs g) → Contained c m (adder_clauses fresh n g)
 adder_contained c m n (full a b d) l h = let k : n < m = omega arith in let x = h.0 in let y = h.1.0 in let z = h.1.1.0 in search parts 20
 adder_contained c m n (half a b) l h = let k : n < m = omega arith in let x = h.0 in let y = h.1.0 in search parts 20

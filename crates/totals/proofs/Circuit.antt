@@ -1,6 +1,6 @@
 -- Adders each of which adds items and what earlier ones gave: their fresh variables have one value each.
 use Rattle.std.proofs.Common.{◌≡◌, ℕ, ◌+◌, ◌*◌, ◌≤◌, Bool, false, List, [], ◌∷◌, ◌++◌, length, get_or, sym, refl, ap, ◌∙◌, inl, inr, arith}
-use Rattle.std.specs.List.{AllByRecursion as All}
+use Rattle.std.specs.List.{AllByRecursion as Each}
 use Rattle.std.proofs.ByRecursion.{All-append, All-weaker}
 use Rattle.std.proofs.lemmas.List.{length-append, get_or_append_left, get_or-append-add, get_or_at}
 use Rattle.std.proofs.lemmas.Bool.{cases_eq}
@@ -13,7 +13,7 @@ use Rattle.totals.proofs.Adder.{bit, ones, inputs, adder_in, adder_out, at_most_
 -- the adder that gives n and n + 1 adds items below c and fresh variables below n, and so on
 abbrev pub Made : ℕ → ℕ → List (Adder Item) → Type 0
 Made c n [] = Unit {0}
-Made c n (g ∷ gs) = All (Known c n) (inputs g) × Made c (n + 2) gs
+Made c n (g ∷ gs) = Each (Known c n) (inputs g) × Made c (n + 2) gs
 
 abbrev pub Same : ℕ → ℕ → Valuation → Valuation → Type 0
 Same c n v v' = (a : Item) → Known c n a → v a ≡ v' a
@@ -22,15 +22,15 @@ pub inside_more : (c m n : ℕ) → m ≤ n → (a : Item) → Known c m a → K
 inside_more c m n l (item i) h = h
 inside_more c m n l (fresh j) h = omega arith
 
-pub all_inside : (c m n : ℕ) → m ≤ n → (ls : List Item) → All (Known c m) ls → All (Known c n) ls
+pub all_inside : (c m n : ℕ) → m ≤ n → (ls : List Item) → Each (Known c m) ls → Each (Known c n) ls
 all_inside c m n l ls h = All-weaker (Known c m) (Known c n) (inside_more c m n l) ls h
 
-same_ones : (c n : ℕ) (v v' : Valuation) → Same c n v v' → (ls : List Item) → All (Known c n) ls → ones v ls ≡ ones v' ls
+same_ones : (c n : ℕ) (v v' : Valuation) → Same c n v v' → (ls : List Item) → Each (Known c n) ls → ones v ls ≡ ones v' ls
 same_ones c n v v' s [] h = refl
 same_ones c n v v' s (a ∷ ls) h = cc (s a h.0, same_ones c n v v' s ls h.1)
 
 -- one adder more
-same_step : (c n : ℕ) (v v' : Valuation) (g : Adder Item) → All (Known c n) (inputs g) → Same c n v v' →
+same_step : (c n : ℕ) (v v' : Valuation) (g : Adder Item) → Each (Known c n) (inputs g) → Same c n v v' →
     Holds (under v) (adder_clauses fresh n g) → Holds (under v') (adder_clauses fresh n g) → Same c (n + 2) v v'
 same_step c n v v' g b s h h' (item i) l = s (item i) l
 same_step c n v v' g b s h h' (fresh j) l =
@@ -59,7 +59,7 @@ given_more : (c n : ℕ) (xs fs gs : List Bool) → length fs ≡ n → Same c n
 given_more c n xs fs gs e (item i) l = refl
 given_more c n xs fs gs e (fresh j) l = sym (get_or_append_left fs gs false j (omega arith))
 
-extend_step : (g : Adder Item) (gs : List (Adder Item)) (c n : ℕ) (xs fs : List Bool) → All (Known c n) (inputs g) → length fs ≡ n → (s t : Bool) →
+extend_step : (g : Adder Item) (gs : List (Adder Item)) (c n : ℕ) (xs fs : List Bool) → Each (Known c n) (inputs g) → length fs ≡ n → (s t : Bool) →
     ones (valued xs fs) (inputs g) ≡ bit s + 2 * bit t → (fs' : List Bool) → Extends gs c (n + 2) xs (fs ++ s ∷ t ∷ []) fs' →
     Extends (g ∷ gs) c n xs fs fs'
 extend_step g gs c n xs fs b e s t p fs' r =

@@ -1,6 +1,6 @@
 -- The lines of a network, and the law.
 use Rattle.std.proofs.Common.{◌≡◌, ℕ, zero, suc, ◌+◌, ◌*◌, ◌/◌, ◌^◌, ◌<◌, ◌≤◌, Bool, true, false, cond, List, [], ◌∷◌, ◌++◌, length, drop, sym, refl, ap, ◌∙◌, subst, append_assoc, arith}
-use Rattle.std.specs.List.{AllByRecursion as All}
+use Rattle.std.specs.List.{AllByRecursion as Each}
 use Rattle.std.proofs.ByRecursion.{All-append, All-weaker}
 use Rattle.std.proofs.lemmas.Nat.{shr-shr}
 use Rattle.std.proofs.lemmas.List.{drop_more, ext_get_or, length-append}
@@ -28,11 +28,11 @@ made_append [] hs c n h k = subst (λ m. Made c m hs) (omega arith) k
 made_append (g ∷ gs) hs c n h k = (h.0, made_append gs hs c (n + 2) h.1 (subst (λ m. Made c m hs) (omega arith) k))
 
 -- the items on a line
-items_inside : (c n k i : ℕ) (ws : List ℕ) → i + length ws ≤ c → All (Known c n) (with_bit item k i ws)
+items_inside : (c n k i : ℕ) (ws : List ℕ) → i + length ws ≤ c → Each (Known c n) (with_bit item k i ws)
 items_inside c n k i [] l = tt
 items_inside c n k i (w ∷ ws) l =
     let ih = items_inside c n k (i + 1) ws (omega arith) in
-    cond_both (has_bit k w) (item i ∷ with_bit item k (i + 1) ws) (with_bit item k (i + 1) ws) (All (Known c n)) (λ _. (omega arith, ih)) (λ _. ih)
+    cond_both (has_bit k w) (item i ∷ with_bit item k (i + 1) ws) (with_bit item k (i + 1) ws) (Each (Known c n)) (λ _. (omega arith, ih)) (λ _. ih)
 
 -- the true weights, each divided by 2 ^ k
 abbrev pub weigh : Valuation → ℕ → ℕ → List ℕ → ℕ
@@ -53,9 +53,9 @@ worth v (l ∷ ls) = ones v l + 2 * worth v ls
 
 record Built (c n : ℕ) (w : Network Item) : Type 0 where
   pub made : Made c n w.adders
-  pub bits : All (All (Known c (n + 2 * length w.adders))) w.bits
+  pub bits : Each (Each (Known c (n + 2 * length w.adders))) w.bits
 
-lines_built : (m k : ℕ) (ws : List ℕ) (cs : List Item) (n : ℕ) → All (Known (length ws) n) cs → Built (length ws) n (lines item fresh m k ws cs n)
+lines_built : (m k : ℕ) (ws : List ℕ) (cs : List Item) (n : ℕ) → Each (Known (length ws) n) cs → Built (length ws) n (lines item fresh m k ws cs n)
 lines_built zero k ws cs n h = record { made = tt; bits = tt }
 lines_built (suc m) k ws cs n h =
     let c = length ws in
@@ -73,18 +73,18 @@ lines_built (suc m) k ws cs n h =
       );
     }
 
-close_contained : (c n : ℕ) (b : Bool) (l : List Item) → 0 < c → All (Known c n) l → Contained c n (close (item 0) b l)
+close_contained : (c n : ℕ) (b : Bool) (l : List Item) → 0 < c → Each (Known c n) l → Contained c n (close (item 0) b l)
 close_contained c n true [] o h = ((o, tt), ((o, tt), tt))
 close_contained c n false [] o h = tt
 close_contained c n true (a ∷ l) o h = ((h.0, tt), tt)
 close_contained c n false (a ∷ l) o h = ((h.0, tt), tt)
 
-closing_contained : (c n k t : ℕ) (ls : List (List Item)) → 0 < c → All (All (Known c n)) ls → Contained c n (closing (item 0) k t ls)
+closing_contained : (c n k t : ℕ) (ls : List (List Item)) → 0 < c → Each (Each (Known c n)) ls → Contained c n (closing (item 0) k t ls)
 closing_contained c n k t [] o h = tt
 closing_contained c n k t (l ∷ ls) o h =
     All-append _ (close (item 0) (has_bit k t) l) (closing (item 0) (k + 1) t ls) (close_contained c n (has_bit k t) l o h.0) (closing_contained c n (k + 1) t ls o h.1)
 
-lines_thin : (m k : ℕ) (ws : List ℕ) (cs : List Item) (n : ℕ) → All (λ l. length l ≤ 1) (lines item fresh m k ws cs n).bits
+lines_thin : (m k : ℕ) (ws : List ℕ) (cs : List Item) (n : ℕ) → Each (λ l. length l ≤ 1) (lines item fresh m k ws cs n).bits
 lines_thin zero k ws cs n = tt
 lines_thin (suc m) k ws cs n =
     let line = with_bit item k 0 ws ++ cs in
@@ -137,7 +137,7 @@ close_in v false (a ∷ []) th h = grind arith
 close_in v true (a ∷ b ∷ l) th h = absurd (omega arith)
 close_in v false (a ∷ b ∷ l) th h = absurd (omega arith)
 
-closing_out : (v : Valuation) (ls : List (List Item)) (k t : ℕ) → All (λ l. length l ≤ 1) ls → t / 2 ^ k < 2 ^ length ls →
+closing_out : (v : Valuation) (ls : List (List Item)) (k t : ℕ) → Each (λ l. length l ≤ 1) ls → t / 2 ^ k < 2 ^ length ls →
     Holds (under v) (closing (item 0) k t ls) → worth v ls ≡ t / 2 ^ k
 closing_out v [] k t th lt h = omega arith
 closing_out v (l ∷ ls) k t th lt h =
@@ -147,7 +147,7 @@ closing_out v (l ∷ ls) k t th lt h =
     let ih = closing_out v ls (k + 1) t th.1 (omega arith) (holds_right (under v) (close (item 0) (has_bit k t) l) (closing (item 0) (k + 1) t ls) h) in
     grind (arith, nat_tests)
 
-closing_in : (v : Valuation) (ls : List (List Item)) (k t : ℕ) → All (λ l. length l ≤ 1) ls →
+closing_in : (v : Valuation) (ls : List (List Item)) (k t : ℕ) → Each (λ l. length l ≤ 1) ls →
     worth v ls ≡ t / 2 ^ k → Holds (under v) (closing (item 0) k t ls)
 closing_in v [] k t th h = tt
 closing_in v (l ∷ ls) k t th h =
@@ -165,7 +165,7 @@ weigh_total xs fs (w ∷ ws) i e =
     let l : i < length xs = omega arith in
     rw (drop_more xs i false) (grind arith)
 
-total_bound : (ws : List ℕ) (xs : List Bool) → All Weight ws → total ws xs ≤ 15 * length ws
+total_bound : (ws : List ℕ) (xs : List Bool) → Each Weight ws → total ws xs ≤ 15 * length ws
 total_bound [] xs h = omega arith
 total_bound (w ∷ ws) [] h = omega arith
 total_bound (w ∷ ws) (x ∷ xs) h = let ih = total_bound ws xs h.1 in let top = h.0.1 in grind arith
@@ -175,7 +175,7 @@ at_first c xs fs gs (item i) l = refl
 at_first c xs fs gs (fresh j) l = absurd (omega arith)
 
 -- any adders that keep the total, with lines enough for the target, fulfil the law
-module _ (c : ℕ) (gs : List (Adder Item)) (bits : List (List Item)) (t : ℕ) (xs : List Bool) (sum : ℕ) (made : Made c 0 gs) (thin : All (λ l. length l ≤ 1) bits)
+module _ (c : ℕ) (gs : List (Adder Item)) (bits : List (List Item)) (t : ℕ) (xs : List Bool) (sum : ℕ) (made : Made c 0 gs) (thin : Each (λ l. length l ≤ 1) bits)
     (keeps : (fs : List Bool) → Holds (under (valued xs fs)) (wired fresh 0 gs) → worth (valued xs fs) bits ≡ sum) where
   only_sum : t < 2 ^ length bits → (fs : List Bool) → Holds (under (valued xs fs)) (wired fresh 0 gs ++ closing (item 0) 0 t bits) → sum ≡ t
   only_sum lt fs h =
@@ -205,7 +205,7 @@ network_built : (ws : List ℕ) → Built (length ws) 0 (network item fresh ws)
 unfolding network
 network_built ws = lines_built 11 0 ws [] 0 tt
 
-network_thin : (ws : List ℕ) → All (λ l. length l ≤ 1) (network item fresh ws).bits
+network_thin : (ws : List ℕ) → Each (λ l. length l ≤ 1) (network item fresh ws).bits
 unfolding network
 network_thin ws = lines_thin 11 0 ws [] 0
 
@@ -218,7 +218,7 @@ network_worth : (v : Valuation) (ws : List ℕ) → weigh v 0 0 ws + 0 < 2 ^ 11 
 unfolding network
 network_worth v ws l h = lines_worth v 11 0 ws [] 0 l h
 
-module _ (ws : List ℕ) (t : ℕ) (weights : All Weight ws) (few : length ws ≤ 96) (small : t ≤ 63) (xs : List Bool) (same : length xs ≡ length ws) where
+module _ (ws : List ℕ) (t : ℕ) (weights : Each Weight ws) (few : length ws ≤ 96) (small : t ≤ 63) (xs : List Bool) (same : length xs ≡ length ws) where
   keeps : (fs : List Bool) → Holds (under (valued xs fs)) (wired fresh 0 (network item fresh ws).adders) → worth (valued xs fs) (network item fresh ws).bits ≡ total ws xs
   keeps fs h =
       let e = weigh_total xs fs ws 0 (omega arith) in
@@ -249,22 +249,22 @@ contained ws t o =
     (wired_contained (network item fresh ws).adders (length ws) 0 n (omega arith) (network_built ws).made)
     (closing_contained (length ws) n 0 t (network item fresh ws).bits o (rw e at (network_built ws).bits))
 
-adder_sized : (n : ℕ) (g : Adder Item) → All SizedClause (adder_clauses fresh n g)
+adder_sized : (n : ℕ) (g : Adder Item) → Each SizedClause (adder_clauses fresh n g)
 adder_sized n (full a b c) =
     (omega arith, (omega arith, (omega arith, (omega arith, (omega arith, (omega arith, (omega arith, (omega arith, (omega arith, (omega arith, (omega arith, (omega arith, (omega arith, (omega arith, tt))))))))))))))
 adder_sized n (half a b) = (omega arith, (omega arith, (omega arith, (omega arith, (omega arith, (omega arith, (omega arith, tt)))))))
 
-wired_sized : (n : ℕ) (gs : List (Adder Item)) → All SizedClause (wired fresh n gs)
+wired_sized : (n : ℕ) (gs : List (Adder Item)) → Each SizedClause (wired fresh n gs)
 wired_sized n [] = tt
 wired_sized n (g ∷ gs) = All-append _ (adder_clauses fresh n g) (wired fresh (n + 2) gs) (adder_sized n g) (wired_sized (n + 2) gs)
 
-close_sized : (b : Bool) (l : List Item) → All SizedClause (close (item 0) b l)
+close_sized : (b : Bool) (l : List Item) → Each SizedClause (close (item 0) b l)
 close_sized true [] = (omega arith, (omega arith, tt))
 close_sized false [] = tt
 close_sized true (a ∷ l) = (omega arith, tt)
 close_sized false (a ∷ l) = (omega arith, tt)
 
-closing_sized : (k t : ℕ) (ls : List (List Item)) → All SizedClause (closing (item 0) k t ls)
+closing_sized : (k t : ℕ) (ls : List (List Item)) → Each SizedClause (closing (item 0) k t ls)
 closing_sized k t [] = tt
 closing_sized k t (l ∷ ls) = All-append _ (close (item 0) (has_bit k t) l) (closing (item 0) (k + 1) t ls) (close_sized (has_bit k t) l) (closing_sized (k + 1) t ls)
 

@@ -1,6 +1,6 @@
 -- A line's adders: they add what is there, they keep its worth, and leave one atom at most.
 use Rattle.std.proofs.Common.{◌≡◌, ℕ, zero, suc, ◌+◌, ◌*◌, ◌≤◌, List, [], ◌∷◌, ◌++◌, length, refl, arith}
-use Rattle.std.specs.List.{AllByRecursion as All}
+use Rattle.std.specs.List.{AllByRecursion as Each}
 use Rattle.std.proofs.ByRecursion.{All-append}
 use Rattle.std.proofs.lemmas.List.{length-append}
 use Rattle.formulas.specs.Formula.{Holds, under}
@@ -16,10 +16,10 @@ ones_append v (a ∷ ls) ms = omega (arith, ones_append v ls ms)
 
 pub record Sound (c n : ℕ) (r : Reduced Item) : Type 0 where
   pub made : Made c n r.adders
-  pub carries : All (Known c (n + 2 * length r.adders)) r.carries
-  pub left : All (Known c (n + 2 * length r.adders)) r.left
+  pub carries : Each (Known c (n + 2 * length r.adders)) r.carries
+  pub left : Each (Known c (n + 2 * length r.adders)) r.left
 
-pub reduce_sound : (m : ℕ) (ls : List Item) (c n : ℕ) → All (Known c n) ls → Sound c n (reduce fresh m ls n)
+pub reduce_sound : (m : ℕ) (ls : List Item) (c n : ℕ) → Each (Known c n) ls → Sound c n (reduce fresh m ls n)
 reduce_sound zero ls c n h = record { made = tt; carries = tt; left = all_inside c n (n + 0) (omega arith) ls h }
 reduce_sound (suc m) [] c n h = record { made = tt; carries = tt; left = tt }
 reduce_sound (suc m) (a ∷ []) c n h = record { made = tt; carries = tt; left = all_inside c n (n + 0) (omega arith) (a ∷ []) h }

@@ -1,6 +1,6 @@
 -- The running totals are lawful.
 use Rattle.std.proofs.Common.{◌≡◌, ℕ, zero, suc, ◌+◌, ◌-◌, ◌*◌, ◌/◌, ◌%◌, ◌<◌, ◌≤◌, Bool, true, false, cond, eqb, leb, List, [], ◌∷◌, ◌++◌, map, length, get_or, take, sym, ap, ◌∙◌, not-suc-le-zero, mul-le-mul, zero-add, add-one, one-add, arith}
-use Rattle.std.specs.List.{range_with_len, AllByRecursion as All}
+use Rattle.std.specs.List.{range_with_len, AllByRecursion as Each}
 use Rattle.std.proofs.ByRecursion.{All-append}
 use Rattle.std.proofs.lemmas.List.{take_all, ext_get_or}
 use Rattle.std.proofs.lemmas.List.FromFn.{length-map-range_with_len, get_or-map-range_with_len}
@@ -58,10 +58,10 @@ module _ (ws : List ℕ) (t : ℕ) (xs : List Bool) where
         ok : Clause Item → Type 0
         ok c = some_true (under (valued xs fs)) c ≡ true
 
-        front : All ok (first_row t)
+        front : Each ok (first_row t)
         front = all_left ok (first_row t) (rows ws t) (all_left ok (first_row t ++ rows ws t) _ h)
 
-        back : All ok (rows ws t)
+        back : Each ok (rows ws t)
         back = all_right ok (first_row t) (rows ws t) (all_left ok (first_row t ++ rows ws t) _ h)
 
         go : Right fs
@@ -83,14 +83,14 @@ module _ (ws : List ℕ) (t : ℕ) (xs : List Bool) where
         ok : Clause Item → Type 0
         ok c = some_true (under (valued xs fs)) c ≡ true
 
-        front : All ok (first_row t)
+        front : Each ok (first_row t)
         front = (
           grind (arith, r 0 0 (omega arith) (omega arith)),
           each_from_in ok (λ n. (isnt (at t 0 n) ∷ []) ∷ []) 1 t (λ k l.
               let f = r 0 (1 + k) (omega arith) (omega arith) in grind (arith, nat_tests)),
         )
 
-        back : All ok (rows ws t)
+        back : Each ok (rows ws t)
         back = each_in ok (row ws t) (length ws) (λ i l. each_in ok (step t i (get_or ws i 0)) (t + 1) (λ u lu.
             let w = get_or ws i 0 in
             step_in (valued xs fs) (item i) (at t (i + 1) u) (at t i (u - w)) (at t i u) (leb w u)
@@ -149,16 +149,16 @@ contained ws t =
     ((place (length ws) t (omega arith) (omega arith), tt), tt)
   where
     ok : Clause Item → Type 0
-    ok c = All (λ l. Known (length ws) ((length ws + 1) * (t + 1)) (variable l)) c
+    ok c = Each (λ l. Known (length ws) ((length ws + 1) * (t + 1)) (variable l)) c
 
     place : (i u : ℕ) → i < length ws + 1 → u < t + 1 → i * (t + 1) + u < (length ws + 1) * (t + 1)
     place i u li lu = omega (arith, mul-add-lt i (t + 1) u (length ws + 1) li lu)
 
-step_sized : (x p q r : Item) (b : Bool) → All SizedClause (cond b (as_unless (isnt x) p q) ((isnt x ∷ isnt p ∷ []) ∷ []) ++ as_unless (is x) p r)
+step_sized : (x p q r : Item) (b : Bool) → Each SizedClause (cond b (as_unless (isnt x) p q) ((isnt x ∷ isnt p ∷ []) ∷ []) ++ as_unless (is x) p r)
 step_sized x p q r true = (omega arith, (omega arith, (omega arith, (omega arith, tt))))
 step_sized x p q r false = (omega arith, (omega arith, (omega arith, tt)))
 
-sized : (ws : List ℕ) (t : ℕ) → All SizedClause (running.formula ws t)
+sized : (ws : List ℕ) (t : ℕ) → Each SizedClause (running.formula ws t)
 sized ws t =
     All-append ok (first_row t ++ rows ws t) _
     (All-append ok (first_row t) (rows ws t)

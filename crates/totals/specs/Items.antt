@@ -1,6 +1,6 @@
 -- The variables of a sum: those of its items, and those that an encoding adds.
 use Rattle.std.specs.Prelude.{ℕ, ◌<◌, ◌≤◌, Bool, false, List, length, slice_index_or}
-use Rattle.std.specs.List.{AllByRecursion as All}
+use Rattle.std.specs.List.{AllByRecursion as Each}
 use Rattle.formulas.specs.Formula.{Formula, SpeaksOf}
 
 pub data Item : Type 0 where
@@ -26,4 +26,4 @@ Contained m n f = SpeaksOf (Known m n) f
 
 -- in clauses of 1 to 16 literals
 abbrev pub Sized : Formula Item → Type 0
-Sized f = All (λ c. (1 ≤ length c) × (length c ≤ 16)) f
+Sized f = Each (λ c. (1 ≤ length c) × (length c ≤ 16)) f

@@ -1,6 +1,6 @@
 -- What a totaller is, and the law of one.
 use Rattle.std.specs.Prelude.{◌≡◌, ℕ, ◌+◌, ◌≤◌, Bool, true, cond, List, [], ◌∷◌, length}
-use Rattle.std.specs.List.{AllByRecursion as All}
+use Rattle.std.specs.List.{AllByRecursion as Each}
 use Rattle.formulas.specs.Formula.{Formula, Holds, under}
 use Rattle.totals.specs.Items.{Contained, Item, Sized, valued}
 
@@ -40,7 +40,7 @@ pub record Sound (𝓣 : Totaller) (ws : List ℕ) (t : ℕ) : Type 0 where
   pub exact : (xs : List Bool) → length xs ≡ length ws → Exact 𝓣 ws t xs
 
 pub record Lawful (𝓣 : Totaller) : Type 0 where
-  pub sound : (ws : List ℕ) (t : ℕ) → All Weight ws → 𝓣.takes (length ws) t ≡ true → Sound 𝓣 ws t
+  pub sound : (ws : List ℕ) (t : ℕ) → Each Weight ws → 𝓣.takes (length ws) t ≡ true → Sound 𝓣 ws t
   -- it takes every list of 1 to 8 items with a target up to 10, and none beyond its greatest number
   pub ready : (n t : ℕ) → 1 ≤ n → n ≤ 8 → t ≤ 10 → 𝓣.takes n t ≡ true
   pub bounded : (n t : ℕ) → 𝓣.takes n t ≡ true → (1 ≤ n) × (n ≤ 𝓣.most)

@@ -1,5 +1,5 @@
 use Rattle.std.proofs.Common.{◌+◌, ◌<◌, eqb, length, get_or, sym, ap, ◌∙◌, subst, arith}
-use Rattle.std.specs.List.{AllByRecursion as All}
+use Rattle.std.specs.List.{AllByRecursion as Each}
 use Rattle.std.proofs.ByRecursion.{All-drop, All-weaker}
 use Rattle.std.proofs.lemmas.List.{length-drop}
 use Rattle.boards.specs.Board.{cells, side}
@@ -25,7 +25,7 @@ sum_digits-requires c =
     let in_grid = All-weaker (λ k. k < cells b) (λ k. k < length g) (λ k l. omega arith) body on in
     record {
       few = omega (arith, ap length (rest_is body 1), length-drop 1 body, few, b.small);
-      cells = subst (All (λ k. k < length g)) (sym (rest_is body 1)) (All-drop (λ k. k < length g) 1 body in_grid);
+      cells = subst (Each (λ k. k < length g)) (sym (rest_is body 1)) (All-drop (λ k. k < length g) 1 body in_grid);
     }
 
 pub returns : goal.returns
