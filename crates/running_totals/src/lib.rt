@@ -2,6 +2,6 @@
 #![tactic(auto)]
 
 mod running;
-mod table;
+mod running_table;
 
 pub use running::RunningTotals;

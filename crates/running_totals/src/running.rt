@@ -2,7 +2,7 @@
 ghost use Rattle.totals.specs.Running.{running};
 ghost use Rattle.totals.proofs.Running.{running_lawful};
 
-use crate::table::Table;
+use crate::running_table::Table;
 use places::Place;
 use totallers::{Totaller, TotallerFault, check_fresh, check_items};
 

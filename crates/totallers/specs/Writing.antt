@@ -38,7 +38,10 @@ fresh_fault f n = cond (n == 0 || nat_le (f + n) 65536) None (Some fault.FreshNu
 
 -- that it does not take them, or that a fresh number lies beyond 65,535
 abbrev pub taking_fault : Totaller → List ℕ → ℕ → ℕ → Option TotallerFault
-taking_fault 𝓣 ws t f = cond (𝓣.takes (length ws) t) (fresh_fault f (𝓣.fresh_count ws t)) (Some (fault.NotTaken (length ws)))
+taking_fault 𝓣 ws t f =
+    cond (𝓣.takes (length ws) t)
+    (cond (𝓣.fresh_count ws t == 0 || nat_le (f + 𝓣.fresh_count ws t) 65536) None (Some fault.FreshNumber))
+    (Some (fault.NotTaken (length ws)))
 
 -- what is wrong before the first clause
 abbrev pub ready_fault : Totaller → List ℕ → List ℕ → ℕ → ℕ → Option TotallerFault

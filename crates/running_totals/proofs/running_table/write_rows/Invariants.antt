@@ -4,7 +4,7 @@ use Rattle.formulas.specs.Numbered.{numbered}
 use Rattle.places.specs.Written.{Writes}
 use Rattle.totallers.specs.Writing.{number}
 use Rattle.totals.specs.Running.{row}
-use Rattle.running_totals.proofs.table.write_rows.Given as goal
+use Rattle.running_totals.proofs.running_table.write_rows.Given as goal
 
 abbrev pub invariant-loop-index : goal.invariant-loop-index
 invariant-loop-index g l =

@@ -4,7 +4,7 @@ use Rattle.formulas.specs.Numbered.{numbered}
 use Rattle.places.specs.Written.{Writes}
 use Rattle.totallers.specs.Writing.{number}
 use Rattle.totals.specs.Running.{step}
-use Rattle.running_totals.proofs.table.write_row.Given as goal
+use Rattle.running_totals.proofs.running_table.write_row.Given as goal
 
 abbrev pub invariant-loop-sum : goal.invariant-loop-sum
 invariant-loop-sum g l =

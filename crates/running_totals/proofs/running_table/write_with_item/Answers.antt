@@ -8,7 +8,7 @@ use Rattle.places.proofs.Written.{writes_put}
 use Rattle.totallers.specs.Writing.{number}
 use Rattle.formulas.proofs.Valid.{usable_not, usable_not_as, valid_two}
 use Rattle.running_totals.proofs.Sums.{both_as, in_table, same_two}
-use Rattle.running_totals.proofs.table.write_with_item.Goals as goal
+use Rattle.running_totals.proofs.running_table.write_with_item.Goals as goal
 
 pub write_same_unless-requires : goal.write_same_unless-requires
 write_same_unless-requires g c =

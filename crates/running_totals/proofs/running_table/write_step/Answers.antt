@@ -6,7 +6,7 @@ use Rattle.places.specs.Written.{Writes}
 use Rattle.places.proofs.Written.{writes_exit, writes_stops, writes_then}
 use Rattle.totals.specs.Running.{with_item, without_item}
 use Rattle.totallers.specs.Writing.{number}
-use Rattle.running_totals.proofs.table.write_step.Goals as goal
+use Rattle.running_totals.proofs.running_table.write_step.Goals as goal
 
 pub returns-in_err-write_with_item : goal.returns-in_err-write_with_item
 returns-in_err-write_with_item g c =

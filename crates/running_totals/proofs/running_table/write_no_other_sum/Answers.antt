@@ -10,7 +10,7 @@ use Rattle.totals.specs.Running.{at}
 use Rattle.totallers.specs.Writing.{number}
 use Rattle.formulas.proofs.Lists.{at_counting}
 use Rattle.running_totals.proofs.Sums.{in_table, unit_as}
-use Rattle.running_totals.proofs.table.write_no_other_sum.Goals as goal
+use Rattle.running_totals.proofs.running_table.write_no_other_sum.Goals as goal
 
 pub loop-index-init : goal.loop-index-init
 loop-index-init g c = writes_none g.P.Place c.args.place.now

@@ -8,7 +8,7 @@ use Rattle.totals.specs.Running.{first_row, rows}
 use Rattle.totallers.specs.Writing.{number}
 use Rattle.running_totals.proofs.Sums.{in_table, unit_as}
 use Rattle.running_totals.proofs.Rows.{table_is}
-use Rattle.running_totals.proofs.table.Table.write.Goals as goal
+use Rattle.running_totals.proofs.running_table.Table.write.Goals as goal
 
 pub returns-in_err-write_first_row : goal.returns-in_err-write_first_row
 returns-in_err-write_first_row g c =

@@ -5,7 +5,7 @@ use Rattle.places.specs.Written.{Writes}
 use Rattle.places.proofs.Written.{writes_exit, writes_put, writes_stops, writes_then}
 use Rattle.formulas.proofs.Valid.{usable_is, usable_not, valid_three}
 use Rattle.running_totals.proofs.Sums.{same_three}
-use Rattle.running_totals.proofs.table.write_same_unless.Goals as goal
+use Rattle.running_totals.proofs.running_table.write_same_unless.Goals as goal
 
 pub returns-in_err-put : goal.returns-in_err-put
 returns-in_err-put g c =

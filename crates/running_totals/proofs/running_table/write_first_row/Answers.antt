@@ -5,7 +5,7 @@ use Rattle.places.proofs.Written.{writes_exit, writes_stops, writes_then}
 use Rattle.totals.specs.Running.{no_other_sum}
 use Rattle.totallers.specs.Writing.{number}
 use Rattle.running_totals.proofs.Sums.{in_table, unit_as}
-use Rattle.running_totals.proofs.table.write_first_row.Goals as goal
+use Rattle.running_totals.proofs.running_table.write_first_row.Goals as goal
 
 pub returns-in_err-write_unit : goal.returns-in_err-write_unit
 returns-in_err-write_unit g c =

@@ -7,7 +7,7 @@ use Rattle.places.proofs.Written.{loop_all, loop_exit, loop_more, writes_none}
 use Rattle.totallers.specs.Writing.{number}
 use Rattle.totals.specs.Running.{row}
 use Rattle.formulas.proofs.Lists.{at_counting}
-use Rattle.running_totals.proofs.table.write_rows.Goals as goal
+use Rattle.running_totals.proofs.running_table.write_rows.Goals as goal
 
 pub loop-index-init : goal.loop-index-init
 loop-index-init g c = writes_none g.P.Place c.args.place.now

@@ -7,7 +7,7 @@ use Rattle.places.proofs.Written.{loop_all, loop_exit, loop_more, writes_none}
 use Rattle.totallers.specs.Writing.{number}
 use Rattle.totals.specs.Running.{step}
 use Rattle.formulas.proofs.Lists.{at_counting}
-use Rattle.running_totals.proofs.table.write_row.Goals as goal
+use Rattle.running_totals.proofs.running_table.write_row.Goals as goal
 
 pub loop-sum-init : goal.loop-sum-init
 loop-sum-init g c = writes_none g.P.Place c.args.place.now

@@ -5,7 +5,7 @@ use Rattle.formulas.specs.Numbered.{numbered}
 use Rattle.places.specs.Written.{Writes}
 use Rattle.totals.specs.Running.{at}
 use Rattle.totallers.specs.Writing.{number}
-use Rattle.running_totals.proofs.table.write_no_other_sum.Given as goal
+use Rattle.running_totals.proofs.running_table.write_no_other_sum.Given as goal
 
 abbrev pub invariant-loop-index : goal.invariant-loop-index
 invariant-loop-index g l =

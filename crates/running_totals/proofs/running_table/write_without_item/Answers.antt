@@ -2,7 +2,7 @@ use Rattle.std.proofs.Common.{◌+◌, get_or, arith, w32, to_z}
 use Rattle.std.proofs.lemmas.Int.{ints}
 use Rattle.formulas.proofs.Valid.{usable_is_as}
 use Rattle.running_totals.proofs.Sums.{in_table}
-use Rattle.running_totals.proofs.table.write_without_item.Goals as goal
+use Rattle.running_totals.proofs.running_table.write_without_item.Goals as goal
 
 pub write_same_unless-requires : goal.write_same_unless-requires
 write_same_unless-requires g c =
