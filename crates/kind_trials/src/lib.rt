@@ -1,7 +1,7 @@
 // Tests of the kinds on examples, in a crate of their own so that the kinds' crates are not proved a second time. The
+// kinds are found by number, in the set of the four with a further one.
 #![tactic(auto)]
 
-// kinds are found by number, in the set of the four with a further one.
 #[cfg(test)]
 mod judging;
 #[cfg(test)]
