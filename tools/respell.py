@@ -4,7 +4,8 @@
 usage: python3 tools/respell.py      at the top of the repository, once, after the toolchain's own port script
 
 Words of specs/ and proofs/ were written `with-bit` or `readyFault`; they are written `with_bit` and `ready_fault` now,
-and types `SpeaksOf`. Names of goals, which the toolchain makes, of the toolchain's library and of Rust code stay.
+and types `SpeaksOf`. Names of goals, which the toolchain makes, of the toolchain's library and of Rust code stay. The word
+`All` for a list's property by recursion, which is the library's for one by index now, is written `Each`.
 """
 import collections
 import os
@@ -16,6 +17,8 @@ NAME = re.compile(r"(?<![A-Za-z0-9_'\"-])" + PIECE + r"(?![A-Za-z0-9_'-])")
 DEFINED = re.compile(
     r"^\s*(?:let\s+)?(?:(?:abbrev|unfoldable|irreducible|opaque|pub|data|record|theorem|lemma)\s+)*(" + PIECE + r")\s*(?:\(|\{|:)")
 TYPE = re.compile(r"\s*(?:pub\s+)?(?:record|data)\s|.*(?:→|:) Type 0\s*$")
+BY_RECURSION = "AllByRecursion as All"
+ALL = re.compile(r"(?<![A-Za-z0-9_'.-])All(?![A-Za-z0-9_'-])")
 # A record's fields of our own, and a word that is reached by its module's name.
 DOTTED = {"fresh-count", "digit-of"}
 
@@ -107,6 +110,7 @@ def main():
     changed = 0
     for path in files(root):
         text = read(path)
+        by_recursion = BY_RECURSION in text
         result = []
         for line in text.split("\n"):
             in_rust = path.endswith(".rt")
@@ -117,7 +121,10 @@ def main():
             if code.lstrip().startswith("--"):
                 result.append(line)
                 continue
-            result.append(NAME.sub(turn, code) + mark + comment)
+            code = NAME.sub(turn, code)
+            if by_recursion:
+                code = ALL.sub("Each", code)
+            result.append(code + mark + comment)
         fresh = "\n".join(result)
         if fresh != text:
             changed += 1

@@ -28,7 +28,7 @@ every_weaker p q f [] h = refl
 every_weaker p q f (x ∷ xs) h =
     let both = and_parts (p x) (every p xs) h in and_from (q x) (every q xs) (f x both.0) (every_weaker p q f xs both.1)
 
-pub every_get_d : {X : Type 0} (p : X → Bool) (xs : List X) (i : ℕ) (d : X) → i < length xs → every p xs ≡ true → p (get_or xs i d) ≡ true
-every_get_d p [] i d l h = absurd (not-suc-le-zero l)
-every_get_d p (x ∷ xs) zero d l h = (and_parts (p x) (every p xs) h).0
-every_get_d p (x ∷ xs) (suc i) d l h = every_get_d p xs i d (le_of_suc-le-suc l) (and_parts (p x) (every p xs) h).1
+pub every_get_or : {X : Type 0} (p : X → Bool) (xs : List X) (i : ℕ) (d : X) → i < length xs → every p xs ≡ true → p (get_or xs i d) ≡ true
+every_get_or p [] i d l h = absurd (not-suc-le-zero l)
+every_get_or p (x ∷ xs) zero d l h = (and_parts (p x) (every p xs) h).0
+every_get_or p (x ∷ xs) (suc i) d l h = every_get_or p xs i d (le_of_suc-le-suc l) (and_parts (p x) (every p xs) h).1

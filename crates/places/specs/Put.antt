@@ -8,7 +8,7 @@ use Rattle.places.specs.declared.fault.PlaceFault.{PlaceFault}
 use Rattle.places.specs.declared.fault.PlaceFault.TheVariants.{ClauseLength, Literal, NoSpace}
 use Rattle.places.specs.Fault.{by_place}
 
--- what is wrong with a clause, wherever it is put: `leading usable c` is the index of its first literal that is not usable
+-- what is wrong with a clause, wherever it is put: `prefix_len usable c` is the index of its first literal that is not usable
 abbrev pub clause_fault : List ℤ → Option PlaceFault
 clause_fault c = cond (right_length c) (cond (every usable c) None (Some (Literal (prefix_len usable c)))) (Some ClauseLength)
 

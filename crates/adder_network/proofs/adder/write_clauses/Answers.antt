@@ -1,7 +1,7 @@
 use Rattle.std.proofs.Common.{[], ◌∷◌, sym, refl, ap, ◌∙◌, subst, arith}
 use Rattle.std.specs.Result.{result_err}
 use Rattle.formulas.specs.Clause.{valid}
-use Rattle.formulas.proofs.Every.{every_get_d}
+use Rattle.formulas.proofs.Every.{every_get_or}
 use Rattle.places.specs.Written.{Writes}
 use Rattle.places.proofs.Written.{loop_all, loop_exit, loop_more, writes_none, writes_put}
 use Rattle.adder_network.proofs.Adding.{joined_one}
@@ -17,7 +17,7 @@ returns-in_err-put g c =
     let x = c.clause-item.result in
     let p = c.loop-clause.place in
     let q = c.put.new.self in
-    let ok = every_get_d valid cs i x c.loop-clause-test.true c.requires in
+    let ok = every_get_or valid cs i x c.loop-clause-test.true c.requires in
     let one = writes_put g.P.Place x x refl (ap valid c.clause-item.is ∙ ok) p q c.put.result c.put.ensures.fault c.put.ensures.holds c.put.ensures.room in
     loop_exit g.P.Place (λ x. x ∷ []) cs cs (joined_one cs) c.args.place.now p i c.loop-clause.invariant x c.loop-clause-test.true (sym c.clause-item.is) q _ c.from_residual.result c.from_residual.ensures.1
     (subst (λ o. Writes g.P.Place (x ∷ []) p q (result_err o)) c.in_err-put.was one)
@@ -29,7 +29,7 @@ loop-clause-preserved g c =
     let x = c.clause-item.result in
     let p = c.loop-clause.place in
     let q = c.put.new.self in
-    let ok = every_get_d valid cs i x c.loop-clause-test.true c.requires in
+    let ok = every_get_or valid cs i x c.loop-clause-test.true c.requires in
     let one = writes_put g.P.Place x x refl (ap valid c.clause-item.is ∙ ok) p q c.put.result c.put.ensures.fault c.put.ensures.holds c.put.ensures.room in
     loop_more g.P.Place (λ x. x ∷ []) cs cs (joined_one cs) c.args.place.now p i c.loop-clause.invariant x c.loop-clause-test.true (sym c.clause-item.is) q
     (subst (λ o. Writes g.P.Place (x ∷ []) p q (result_err o)) c.in_ok-put.was one)
