@@ -2,39 +2,37 @@
 #![tactic(auto)]
 
 use adder_network::AdderNetwork;
+use clause_text::WriteFault;
+use shell::{StreamFault, ended, write_output};
 use std::alloc::Global;
-use std::io::Write;
 use std::process::ExitCode;
-use sum_text::{Method, Sum, WriteFault, write_sum};
+use sum_text::{Method, OwnedSum, write_sum};
+use thiserror::Error;
+use totallers::TotallerFault;
 
-// The program ends with status 1; what is wrong has been said.
-#[derive(Drop)]
-struct Stopped;
-
-fn main(rt: HostRuntime) -> ExitCode {
-    match work(&rt) {
-        Ok(()) => ExitCode::SUCCESS,
-        Err(Stopped) => ExitCode::FAILURE,
-    }
+// Why the sum was not written.
+#[derive(Debug, Drop, Error)]
+enum Fault {
+    #[error("not enough memory")]
+    Memory,
+    #[error(transparent)]
+    Stream(#[from] StreamFault),
 }
 
-fn work(rt: &HostRuntime) -> Result<(), Stopped> {
-    let Ok(clauses) = one_of_two(rt.alloc()) else {
-        let _ = eprintln!(rt; "adder: not enough memory");
-        return Err(Stopped);
-    };
-    match rt.stdout().write_all(clauses.as_slice()) {
-        Ok(()) => Ok(()),
-        Err(error) => {
-            let _ = eprintln!(rt; "adder: standard output: {error}");
-            Err(Stopped)
-        }
-    }
+fn main(rt: HostRuntime) -> ExitCode {
+    ended(&rt, "adder", work(&rt))
+}
+
+fn work(rt: &HostRuntime) -> Result<ExitCode, Fault> {
+    // No totaller refuses this sum, so that memory alone can be wanting.
+    let clauses = one_of_two(rt.alloc()).map_err(|_| Fault::Memory)?;
+    write_output(rt, clauses.as_slice())?;
+    Ok(ExitCode::SUCCESS)
 }
 
 // The items 1 and 2, each of weight 1, add to 1; fresh numbers begin at 3.
-fn one_of_two(heap: Global) -> Result<Vec<u8>, WriteFault> {
-    let sum = Sum {
+fn one_of_two(heap: Global) -> Result<Vec<u8>, WriteFault<TotallerFault>> {
+    let sum = OwnedSum {
         method: Method::Adder,
         target: 1,
         first: 3,

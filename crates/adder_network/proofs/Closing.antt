@@ -1,13 +1,15 @@
 -- The bits of the lines against the target's.
-use Rattle.std.proofs.Common.{◌≡◌, ℕ, ◌+◌, ◌<◌, ◌≤◌, Bool, true, false, List, [], ◌∷◌, ◌++◌, map, length, get_or, drop, ℤ, Some, None, Option, sym, refl, ap, ◌∙◌, ap₂}
-use Rattle.std.proofs.lemmas.List.{drop_all, drop_more, map-append}
+use Rattle.std.proofs.Common.{◌≡◌, ℕ, ◌+◌, ◌<◌, Bool, true, false, List, [], ◌∷◌, ◌++◌, map, length, get_or, ℤ, None, Option, refl, ap, ◌∙◌, ap₂, subst, sym}
+use Rattle.std.specs.List.{flat_map}
+use Rattle.std.proofs.lemmas.List.{drop_more, map-append}
 use Rattle.formulas.specs.Numbered.{plain}
 use Rattle.places.specs.declared.fault.PlaceFault.{PlaceFault}
 use Rattle.places.specs.declared.place.Place.{Ghosts}
 use Rattle.places.specs.Written.{Writes}
-use Rattle.places.proofs.Written.{Left, left_all, left_exit, left_more}
+use Rattle.places.proofs.Loops.{below, counted_is}
 use Rattle.totals.specs.Adders.{close, closing, has_bit}
-use Rattle.adder_network.specs.Variables.{bit_of, listed}
+use Rattle.adder_network.specs.declared.variable.Variable.{Variable}
+use Rattle.adder_network.specs.Variables.{bit_of, listed, number_of}
 
 -- only a line's first variable counts
 close_bit : (y : ℕ) (b : Bool) (l : List ℕ) → close y b (listed (bit_of l)) ≡ close y b l
@@ -20,26 +22,20 @@ pub closing_bits : (y k t : ℕ) (ls : List (List ℕ)) → closing y k t (map l
 closing_bits y k t [] = refl
 closing_bits y k t (l ∷ ls) = ap₂ ◌++◌ (close_bit y (has_bit k t) l) (closing_bits y (k + 1) t ls)
 
--- the clauses of the lines from line k on
-abbrev pub from_line : ℕ → ℕ → List (Option ℕ) → ℕ → List (List ℤ)
-from_line y t bits k = plain (closing y k t (map listed (drop k bits)))
+-- what is said of line k
+abbrev pub line_turn : ℕ → ℕ → List (Option Variable) → ℕ → List (List ℤ)
+line_turn y t bits k = plain (close y (has_bit k t) (listed (number_of (get_or bits k None))))
 
-abbrev pub ToClose : {P : Type 0} → Ghosts P → ℕ → ℕ → List (Option ℕ) → P → ℕ → P → Type 0
-ToClose 𝓟 y t bits p₀ k p = Left 𝓟 (from_line y t bits 0) p₀ (from_line y t bits k) p
+module _ (y t : ℕ) (bits : List (Option Variable)) where
+  pub closing_is : plain (closing y 0 t (map listed (map number_of bits))) ≡ flat_map (line_turn y t bits) (below (length bits) 0)
+  closing_is =
+      counted_is (λ k bs. plain (closing y k t (map listed (map number_of bs)))) (λ k b. plain (close y (has_bit k t) (listed (number_of b)))) (λ k. refl)
+      (λ k b bs. map-append _ (close y (has_bit k t) (listed (number_of b))) (closing y (k + 1) t (map listed (map number_of bs)))) bits None
 
-module _ {P : Type 0} (𝓟 : Ghosts P) (y t : ℕ) (bits : List (Option ℕ)) (p₀ : P) (k : ℕ) (p : P) (h : ToClose 𝓟 y t bits p₀ k p) where
-  pub close_all : length bits ≤ k → Writes 𝓟 (from_line y t bits 0) p₀ p None
-  close_all l = left_all 𝓟 _ p₀ _ p h (ap (λ bs. plain (closing y k t (map listed bs))) (drop_all k bits l))
-
-  module _ (l : k < length bits) (b : Bool) (is_bit : b ≡ has_bit k t) (q : P) where
-    split : from_line y t bits k ≡ plain (close y b (listed (get_or bits k None))) ++ from_line y t bits (k + 1)
-    split =
-        ap (λ bs. plain (closing y k t (map listed bs))) (drop_more bits k None l) ∙
-        map-append _ (close y (has_bit k t) (listed (get_or bits k None))) (closing y (k + 1) t (map listed (drop (k + 1) bits))) ∙
-        ap (λ x. plain (close y x (listed (get_or bits k None))) ++ from_line y t bits (k + 1)) (sym is_bit)
-
-    pub close_more : Writes 𝓟 (plain (close y b (listed (get_or bits k None)))) p q None → ToClose 𝓟 y t bits p₀ (k + 1) q
-    close_more = left_more 𝓟 _ p₀ _ p h (plain (close y b (listed (get_or bits k None)))) (from_line y t bits (k + 1)) split q
-
-    pub close_exit : (e : PlaceFault) → Writes 𝓟 (plain (close y b (listed (get_or bits k None)))) p q (Some e) → Writes 𝓟 (from_line y t bits 0) p₀ q (Some e)
-    close_exit = left_exit 𝓟 _ p₀ _ p h (plain (close y b (listed (get_or bits k None)))) (from_line y t bits (k + 1)) split q
+  -- the same, where the code has the bit as b
+  pub line_as : {P : Type 0} (𝓟 : Ghosts P) (k : ℕ) (b : Bool) (x : Option Variable) (p q : P) (o : Option PlaceFault) → b ≡ has_bit k t → k < length bits → x ≡ get_or bits k x →
+      Writes 𝓟 (plain (close y b (listed (number_of x)))) p q o → Writes 𝓟 (line_turn y t bits k) p q o
+  line_as 𝓟 k b x p q o e l i w =
+      let same : get_or bits k x ≡ get_or bits k None = ap (λ bs. get_or bs 0 None) (sym (drop_more bits k x l) ∙ drop_more bits k None l) in
+      subst (λ z. Writes 𝓟 (plain (close y (has_bit k t) (listed (number_of z)))) p q o) (i ∙ same)
+      (subst (λ z. Writes 𝓟 (plain (close y z (listed (number_of x)))) p q o) e w)

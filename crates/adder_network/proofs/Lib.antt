@@ -1,4 +1,3 @@
-pub mod Queues
 pub mod Adding
 pub mod Reducing
 pub mod Filling

@@ -1,52 +1,44 @@
 -- The lines of a network, one after the other.
-use Rattle.std.proofs.Common.{◌≡◌, ℕ, ◌+◌, ◌*◌, ◌/◌, ◌<◌, ◌≤◌, List, [], ◌∷◌, ◌++◌, map, length, take, set, IsErrAnd, Some, None, Ok, Err, Option, Result, sym, refl, ap, ◌∙◌, subst, append_assoc, append-nil, arith}
-use Rattle.std.specs.List.{AllByRecursion as Each}
-use Rattle.std.proofs.ByRecursion.{All-set}
-use Rattle.std.proofs.lemmas.List.{length-set, take_all, take_more_set}
+use Rattle.std.proofs.Common.{◌≡◌, ℕ, ◌+◌, ◌*◌, ◌/◌, ◌<◌, ◌≤◌, List, [], ◌∷◌, ◌++◌, map, length, IsErrAnd, Some, None, Ok, Err, Option, Result, sym, refl, ap, ◌∙◌, subst, append_assoc, append-nil, arith}
+use Rattle.std.proofs.lemmas.List.{length_push}
 use Rattle.places.specs.declared.fault.PlaceFault.{PlaceFault}
 use Rattle.places.specs.declared.place.Place.{Ghosts}
 use Rattle.places.specs.Written.{Writes}
 use Rattle.places.proofs.Written.{Left, left_all, left_exit, left_more}
 use Rattle.totals.specs.Numbers.{adders_in, count_from, line_of, lines_from, reduced, wiring}
 use Rattle.totals.proofs.Numbers.{adders_half, count_more, from_last, from_more, line_length, wiring_append, with_bit_few}
-use Rattle.adder_network.proofs.Filling.{line_usable}
-use Rattle.adder_network.specs.Variables.{Fitting, Lined, Usable, UsableBit, bit_of}
+use Rattle.arrayvec.specs.ArrayVec.{ArrayVec}
+use Rattle.adder_network.specs.declared.variable.Variable.{Variable}
+use Rattle.adder_network.specs.Variables.{Fitting, Lined, bit_of}
 
 -- the lines below line k are written; the last of them made c carries, by adders with the fresh numbers from b on
 pub record Lining {P : Type 0} (𝓟 : Ghosts P) (vs ws : List ℕ) (f : ℕ) (p₀ : P) (k b c : ℕ) (bits : List (Option ℕ)) (p : P) : Type 0 where
   -- what is still to be written
   pub rest : Left 𝓟 (wiring f (lines_from vs ws 0 f 0).adders) p₀ (wiring (b + 2 * c) (lines_from vs ws k b c).adders) p
-  pub told : take k bits ++ map bit_of (lines_from vs ws k b c).bits ≡ map bit_of (lines_from vs ws 0 f 0).bits
-  pub size : length bits ≡ 11
-  pub usable : Each UsableBit bits
+  pub told : bits ++ map bit_of (lines_from vs ws k b c).bits ≡ map bit_of (lines_from vs ws 0 f 0).bits
+  pub size : length bits ≡ k
   pub few : c ≤ 96
   pub low : 1 ≤ b
   pub room : 1 ≤ c + count_from ws k c → b + 2 * (c + count_from ws k c) ≤ 65536
 
-bit_usable : (ls : List ℕ) → Each Usable ls → UsableBit (bit_of ls)
-bit_usable [] u = tt
-bit_usable (v ∷ ls) u = (u.0, tt)
-
 module _ {P : Type 0} (𝓟 : Ghosts P) (vs ws : List ℕ) (f : ℕ) (fit : Fitting vs ws f) (p₀ : P) where
-  pub lining_none : (bits : List (Option ℕ)) → length bits ≡ 11 → Each UsableBit bits → Lining 𝓟 vs ws f p₀ 0 f 0 bits p₀
-  lining_none bits size usable = record {
+  pub lining_none : Lining 𝓟 vs ws f p₀ 0 f 0 [] p₀
+  lining_none = record {
     rest = λ q o w. let e : f + 2 * 0 ≡ f = omega arith in subst (λ n. Writes 𝓟 (wiring n (lines_from vs ws 0 f 0).adders) p₀ q o) e w;
     told = refl;
-    size = size;
-    usable = usable;
+    size = refl;
     few = omega arith;
     low = fit.low;
     room = λ l. omega (arith, fit.room (omega arith));
   }
 
   module _ (k b c : ℕ) (bits : List (Option ℕ)) (p : P) (h : Lining 𝓟 vs ws f p₀ k b c bits p) where
-    pub lining_all : 11 ≤ k → k ≤ 11 → Writes 𝓟 (wiring f (lines_from vs ws 0 f 0).adders) p₀ p None × (bits ≡ map bit_of (lines_from vs ws 0 f 0).bits) × Each UsableBit bits
+    pub lining_all : 11 ≤ k → k ≤ 11 → Writes 𝓟 (wiring f (lines_from vs ws 0 f 0).adders) p₀ p None × (bits ≡ map bit_of (lines_from vs ws 0 f 0).bits)
     lining_all l u =
         let e : k ≡ 11 = omega arith in
         let last : lines_from vs ws k b c ≡ record { adders = []; bits = [] } = ap (λ m. lines_from vs ws m b c) e ∙ from_last vs ws b c in (
           left_all 𝓟 _ p₀ _ p h.rest (ap (λ w. wiring (b + 2 * c) w.adders) last),
-          sym (take_all k bits (omega (arith, h.size))) ∙ sym (append-nil (take k bits)) ∙ ap (λ w. take k bits ++ map bit_of w.bits) (sym last) ∙ h.told,
-          h.usable,
+          sym (append-nil bits) ∙ ap (λ w. bits ++ map bit_of w.bits) (sym last) ∙ h.told,
         )
 
     module _ (l : k < 11) where
@@ -70,9 +62,6 @@ module _ {P : Type 0} (𝓟 : Ghosts P) (vs ws : List ℕ) (f : ℕ) (fit : Fitt
       pub line_room : 2 ≤ length line → next + 2 * (length line / 2) ≤ 65536
       line_room m = omega (arith, counted, h.room (omega (arith, counted)))
 
-      pub line_good : Each Usable line
-      line_good = line_usable vs ws k b c fit.same fit.items (λ m. omega (arith, h.room (omega arith)))
-
       split : wiring next (lines_from vs ws k b c).adders ≡
           wiring next (reduced line next).adders ++ wiring (next + 2 * (length line / 2)) (lines_from vs ws (k + 1) next (length line / 2)).adders
       split =
@@ -84,18 +73,16 @@ module _ {P : Type 0} (𝓟 : Ghosts P) (vs ws : List ℕ) (f : ℕ) (fit : Fitt
         pub lining_exit : (e : PlaceFault) → Writes 𝓟 (wiring next (reduced line next).adders) p q (Some e) → Writes 𝓟 (wiring f (lines_from vs ws 0 f 0).adders) p₀ q (Some e)
         lining_exit = left_exit 𝓟 _ p₀ _ p h.rest (wiring next (reduced line next).adders) _ split q
 
-        pub lining_more : (bit : Option ℕ) → bit ≡ bit_of (reduced line next).left → UsableBit bit → Writes 𝓟 (wiring next (reduced line next).adders) p q None →
-            Lining 𝓟 vs ws f p₀ (k + 1) next (length line / 2) (set bits k bit) q
-        lining_more bit e u w =
+        pub lining_more : (bit : Option ℕ) → bit ≡ bit_of (reduced line next).left → Writes 𝓟 (wiring next (reduced line next).adders) p q None →
+            Lining 𝓟 vs ws f p₀ (k + 1) next (length line / 2) (bits ++ bit ∷ []) q
+        lining_more bit e w =
             let up = lines_from vs ws (k + 1) next (length line / 2) in
-            let place_of : k < length bits = omega (arith, h.size) in
             record {
               rest = left_more 𝓟 _ p₀ _ p h.rest (wiring next (reduced line next).adders) (wiring (next + 2 * (length line / 2)) up.adders) split q w;
               told =
-                  ap (λ bs. bs ++ map bit_of up.bits) (take_more_set bits k bit place_of) ∙ append_assoc (take k bits) (bit ∷ []) (map bit_of up.bits) ∙
-                  ap (λ x. take k bits ++ x ∷ map bit_of up.bits) e ∙ ap (λ w. take k bits ++ map bit_of w.bits) (sym (from_more vs ws k b c l)) ∙ h.told;
-              size = length-set bits k bit ∙ h.size;
-              usable = All-set UsableBit bits k bit u h.usable;
+                  append_assoc bits (bit ∷ []) (map bit_of up.bits) ∙
+                  ap (λ x. bits ++ x ∷ map bit_of up.bits) e ∙ ap (λ w. bits ++ map bit_of w.bits) (sym (from_more vs ws k b c l)) ∙ h.told;
+              size = omega (arith, length_push bits bit, h.size);
               few = omega (arith, line_few);
               low = omega (arith, h.low);
               room = λ m. omega (arith, counted, h.room (omega (arith, counted)));
@@ -106,9 +93,6 @@ module _ {P : Type 0} (𝓟 : Ghosts P) (vs ws : List ℕ) (f : ℕ) (fit : Fitt
         pub ready_few : length ls ≤ 192
         ready_few = subst (λ m. length m ≤ 192) (sym el) line_few
 
-        pub ready_good : Each Usable ls
-        ready_good = subst (Each Usable) (sym el) line_good
-
         pub ready_room : 2 ≤ length ls → n + 2 * (length ls / 2) ≤ 65536
         ready_room = subst (λ m. 2 ≤ length m → n + 2 * (length m / 2) ≤ 65536) (sym el) (subst (λ z. 2 ≤ length line → z + 2 * (length line / 2) ≤ 65536) (sym en) line_room)
 
@@ -118,17 +102,16 @@ module _ {P : Type 0} (𝓟 : Ghosts P) (vs ws : List ℕ) (f : ℕ) (fit : Fitt
         pub exit_as : (q : P) (e : PlaceFault) → Writes 𝓟 (wiring n (reduced ls n).adders) p q (Some e) → Writes 𝓟 (wiring f (lines_from vs ws 0 f 0).adders) p₀ q (Some e)
         exit_as q e w = lining_exit q e (as_line q (Some e) w)
 
-        pub more_as : (q : P) (ls' : List ℕ) → ls' ≡ (reduced ls n).left → Each Usable ls' → (bit : Option ℕ) → bit ≡ bit_of ls' → Writes 𝓟 (wiring n (reduced ls n).adders) p q None →
-            (b' c' : ℕ) → b' ≡ next → c' ≡ length ls / 2 → Lining 𝓟 vs ws f p₀ (k + 1) b' c' (set bits k bit) q
-        more_as q ls' left good bit e w b' c' eb ec =
-            let left_is : ls' ≡ (reduced line next).left = left ∙ ap (λ m. (reduced m n).left) el ∙ ap (λ z. (reduced line z).left) en in
-            let usable : UsableBit bit = subst UsableBit (sym e) (bit_usable ls' good) in
-            let made = lining_more q bit (e ∙ ap bit_of left_is) usable (as_line q None w) in
-            subst (λ z. Lining 𝓟 vs ws f p₀ (k + 1) z c' (set bits k bit) q) (sym eb)
-            (subst (λ z. Lining 𝓟 vs ws f p₀ (k + 1) next z (set bits k bit) q) (sym (ec ∙ ap (λ m. length m / 2) el)) made)
+        pub more_as : (q : P) (bit : Option ℕ) → bit ≡ bit_of (reduced ls n).left → Writes 𝓟 (wiring n (reduced ls n).adders) p q None →
+            (b' c' : ℕ) → b' ≡ next → c' ≡ length ls / 2 → Lining 𝓟 vs ws f p₀ (k + 1) b' c' (bits ++ bit ∷ []) q
+        more_as q bit e w b' c' eb ec =
+            let left_is : (reduced ls n).left ≡ (reduced line next).left = ap (λ m. (reduced m n).left) el ∙ ap (λ z. (reduced line z).left) en in
+            let made = lining_more q bit (e ∙ ap bit_of left_is) (as_line q None w) in
+            subst (λ z. Lining 𝓟 vs ws f p₀ (k + 1) z c' (bits ++ bit ∷ []) q) (sym eb)
+            (subst (λ z. Lining 𝓟 vs ws f p₀ (k + 1) next z (bits ++ bit ∷ []) q) (sym (ec ∙ ap (λ m. length m / 2) el)) made)
 
 -- what a `?` hands on
-pub lined_exit : {P : Type 0} (𝓟 : Ghosts P) (vs ws : List ℕ) (f : ℕ) (p q : P) (e : PlaceFault) (r : Result (List (Option ℕ)) PlaceFault) → IsErrAnd r (λ y. y ≡ e) →
+pub lined_exit : {P : Type 0} (𝓟 : Ghosts P) (vs ws : List ℕ) (f : ℕ) (p q : P) (e : PlaceFault) (r : Result (ArrayVec (Option Variable)) PlaceFault) → IsErrAnd r (λ y. y ≡ e) →
     Writes 𝓟 (wiring f (lines_from vs ws 0 f 0).adders) p q (Some e) → Lined 𝓟 vs ws f p q r
 lined_exit 𝓟 vs ws f p q e (Ok bits) by w = absurd by
 lined_exit 𝓟 vs ws f p q e (Err y) by w = subst (λ z. Writes 𝓟 (wiring f (lines_from vs ws 0 f 0).adders) p q (Some z)) (sym by) w

@@ -1,16 +1,14 @@
 // The clauses of adders, and how they take a line down to one variable or none.
-ghost use Rattle.std.specs.Prelude.{◌≡◌, ◌+◌, ◌*◌, ◌/◌, ◌≤◌, true, [], ◌∷◌, length, drop, is_ok};
+ghost use Rattle.std.specs.Prelude.{◌≡◌, ◌+◌, ◌*◌, ◌/◌, ◌≤◌, true, length};
 ghost use Rattle.std.specs.Result.{result_err};
-ghost use Rattle.std.specs.List.{AllByRecursion as Each};
 ghost use Rattle.formulas.specs.Clause.{every, valid};
 ghost use Rattle.formulas.specs.Numbered.{plain};
 ghost use Rattle.places.specs.Written.{Writes};
 ghost use Rattle.totals.specs.Adders.{full_clauses, half_clauses};
-ghost use Rattle.adder_network.specs.Line.{standing};
-ghost use Rattle.totals.specs.Numbers.{first_adder, reduced, wiring};
-ghost use Rattle.adder_network.specs.Variables.{Usable};
+ghost use Rattle.adder_network.specs.Variables.{TakenDown, numbers};
 
-use crate::line::Line;
+use crate::carries::Line;
+use crate::variable::{Outputs, Variable};
 use places::{Place, PlaceFault};
 
 // Puts each clause in turn.
@@ -27,18 +25,18 @@ pub(crate) fn write_clauses<const N: usize, P: Place>(
     Ok(())
 }
 
-// A full adder: of three variables, the sum and the carry, which is the variable after it.
+// A full adder: of three variables, the sum and the carry.
 fn write_full_adder<P: Place>(
-    a: u32,
-    b: u32,
-    c: u32,
-    sum: u32,
+    a: Variable,
+    b: Variable,
+    c: Variable,
+    outputs: Outputs,
     place: &mut P,
 ) -> Result<(), PlaceFault>
-    requires { Each Usable (a ∷ b ∷ c ∷ sum ∷ (sum + 1) ∷ []) }
-    ensures { Writes P.Place (plain (full_clauses a b c sum (sum + 1))) place.old place.new (result_err result) }
+    ensures { Writes P.Place (plain (full_clauses a.number b.number c.number outputs.sum (outputs.sum + 1))) place.old place.new (result_err result) }
 {
-    let (a, b, c, s, t) = (a as i32, b as i32, c as i32, sum as i32, (sum + 1) as i32);
+    let (a, b, c) = (a.number as i32, b.number as i32, c.number as i32);
+    let (s, t) = (outputs.sum as i32, (outputs.sum + 1) as i32);
     write_clauses(
         &[
             [a, b, c, -s],
@@ -66,11 +64,20 @@ fn write_full_adder<P: Place>(
 }
 
 // A half adder: of two variables.
-fn write_half_adder<P: Place>(a: u32, b: u32, sum: u32, place: &mut P) -> Result<(), PlaceFault>
-    requires { Each Usable (a ∷ b ∷ sum ∷ (sum + 1) ∷ []) }
-    ensures { Writes P.Place (plain (half_clauses a b sum (sum + 1))) place.old place.new (result_err result) }
+fn write_half_adder<P: Place>(
+    a: Variable,
+    b: Variable,
+    outputs: Outputs,
+    place: &mut P,
+) -> Result<(), PlaceFault>
+    ensures { Writes P.Place (plain (half_clauses a.number b.number outputs.sum (outputs.sum + 1))) place.old place.new (result_err result) }
 {
-    let (a, b, s, t) = (a as i32, b as i32, sum as i32, (sum + 1) as i32);
+    let (a, b, s, t) = (
+        a.number as i32,
+        b.number as i32,
+        outputs.sum as i32,
+        (outputs.sum + 1) as i32,
+    );
     write_clauses(
         &[
             [a, b, -s],
@@ -84,39 +91,33 @@ fn write_half_adder<P: Place>(a: u32, b: u32, sum: u32, place: &mut P) -> Result
     write_clauses(&[[a, -t], [b, -t]], place)
 }
 
-// An adder takes the first three variables off the line, or two if there are no more.
-fn write_adder<P: Place>(line: &mut Line, sum: u32, place: &mut P) -> Result<(), PlaceFault>
-    requires some { 2 ≤ length (standing line.old) }
-    requires usable { Each Usable (standing line.old) }
-    requires sum { (1 ≤ sum) × (sum + 2 ≤ 65536) }
-    ensures { (Writes P.Place (wiring sum (first_adder (standing line.old) ∷ [])) place.old place.new (result_err result)) × ((standing line.new ≡ drop 3 (standing line.old)) × (line.new.end ≡ line.old.end)) }
-{
-    let (a, b) = (line.take(), line.take());
-    if line.len() == 0 {
-        write_half_adder(a, b, sum, place)
-    } else {
-        write_full_adder(a, b, line.take(), sum, place)
-    }
-}
-
-// Takes the line down to one variable or none.
+// Takes the line down to one variable or none, and answers it. An adder takes the first three of the variables that still
+// stand in the line, or two if there are no more, and its sum comes to the line's end.
+// Those that are taken are counted and stay where they are: to take them out would move all the others for each adder.
 pub(crate) fn write_line<P: Place>(
     line: &mut Line,
     first: u32,
     place: &mut P,
-) -> Result<(), PlaceFault>
-    requires space { line.old.end + length (standing line.old) / 2 ≤ 288 }
-    requires usable { Each Usable (standing line.old) }
-    requires first { (1 ≤ first) × ((2 ≤ length (standing line.old) → first + 2 * (length (standing line.old) / 2) ≤ 65536)) }
-    ensures written { Writes P.Place (wiring first (reduced (standing line.old) first).adders) place.old place.new (result_err result) }
-    ensures left { is_ok result ≡ true → standing line.new ≡ (reduced (standing line.old) first).left }
-    ensures usable { is_ok result ≡ true → Each Usable (standing line.new) }
+) -> Result<Option<Variable>, PlaceFault>
+    requires few { length line.old.items ≤ 192 }
+    requires first { (1 ≤ first) × ((2 ≤ length line.old.items → first + 2 * (length line.old.items / 2) ≤ 65536)) }
+    ensures { TakenDown P.Place (numbers line.old.items) first place.old place.new result }
 {
     let mut next = first;
-    while line.len() > 1 {
-        write_adder(line, next, place)?;
-        line.push(next);
+    let mut taken = 0;
+    loop {
+        match &line.as_slice()[taken..] {
+            [a, b, c, ..] => {
+                write_full_adder(*a, *b, *c, Outputs { sum: next }, place)?;
+                taken += 3;
+            }
+            [a, b] => {
+                write_half_adder(*a, *b, Outputs { sum: next }, place)?;
+                taken += 2;
+            }
+            left => return Ok(left.first().copied()),
+        }
+        line.push(Variable { number: next });
         next += 2;
     }
-    Ok(())
 }

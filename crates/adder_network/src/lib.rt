@@ -2,10 +2,11 @@
 #![tactic(auto)]
 
 mod adder;
-mod items;
-mod line;
+mod bit;
+mod carries;
 mod lines;
 mod network;
-mod queue;
+mod totaller;
+mod variable;
 
-pub use network::AdderNetwork;
+pub use totaller::AdderNetwork;

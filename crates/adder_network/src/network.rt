@@ -1,86 +1,114 @@
-// The adder network as a totaller.
-ghost use Rattle.std.specs.Prelude.{◌≡◌, ◌≤◌, length};
+// The clauses of an adder network.
+ghost use Rattle.std.specs.Prelude.{◌≡◌, ◌+◌, ◌≤◌, ◌++◌, map, length, slice_index};
 ghost use Rattle.std.specs.Result.{result_err};
+ghost use Rattle.formulas.specs.Numbered.{plain};
 ghost use Rattle.places.specs.Written.{Writes};
-ghost use Rattle.totals.specs.Adders.{adders};
+ghost use Rattle.totals.specs.Adders.{adders, close, closing, with_bit};
+ghost use Rattle.totals.specs.Numbers.{line_of};
 ghost use Rattle.totallers.specs.Writing.{sum_clauses};
-ghost use Rattle.adder_network.specs.Variables.{Fitting};
-ghost use Rattle.totals.proofs.Network.{adders_lawful};
+ghost use Rattle.adder_network.specs.Variables.{Fitting, Lined, listed, number_of, numbers};
 
-use crate::lines::{count_adders, write_closing, write_lines};
+use crate::adder::{write_clauses, write_line};
+use crate::bit::Bit;
+use crate::carries::{Carries, Line};
+use crate::lines::LINES;
+use crate::variable::Variable;
+use arrayvec::ArrayVec;
 use places::{Place, PlaceFault};
-use totallers::{Totaller, TotallerFault, check_fresh, check_items};
+use totallers::Sum;
 
-const MOST_ITEMS: usize = 96;
-
-const MOST_TARGET: u32 = 63;
-
-pub struct AdderNetwork;
-
-// Each adder adds two variables.
-fn count_fresh(weights: &[u8], target: u32) -> u32
-    requires { length weights.now ≤ 96 }
-    ensures { result ≡ adders.fresh_count weights.now target }
-{
-    2 * count_adders(weights)
+// The network of a sum whose items can be literals, and whose fresh numbers fit.
+#[derive(Clone, Copy)]
+pub(crate) struct Network<'a> {
+    pub(crate) sum: Sum<'a>,
+    ghost fitting: { Fitting sum.variables.now sum.weights.now sum.first },
+    ghost some: { 1 ≤ length sum.variables.now },
 }
 
-// Writes the adders, and then that their total is the target.
-fn write_network<P: Place>(
-    variables: &[u32],
-    weights: &[u8],
+impl Network<'_> {
+    // Writes the adders, and then that their total is the target.
+    pub(crate) fn write<P: Place>(&self, place: &mut P) -> Result<(), PlaceFault>
+        ensures { Writes P.Place (sum_clauses adders self.now.sum.variables.now self.now.sum.weights.now self.now.sum.target self.now.sum.first) place.old place.new (result_err result) }
+    {
+        let bits = self.write_lines(place)?;
+        write_closing(
+            Variable {
+                number: self.sum.variables[0],
+            },
+            self.sum.target,
+            bits.as_slice(),
+            place,
+        )
+    }
+
+    // Writes the adders of all lines, and answers what is left of each line.
+    fn write_lines<P: Place>(
+        &self,
+        place: &mut P,
+    ) -> Result<ArrayVec<Option<Variable>, LINES>, PlaceFault>
+        ensures { Lined P.Place self.now.sum.variables.now self.now.sum.weights.now self.now.sum.first place.old place.new result }
+    {
+        let mut bits = ArrayVec::new();
+        let mut line = Line::new();
+        let mut carries = Carries {
+            below: self.sum.first,
+            count: 0,
+        };
+        for index in 0..LINES {
+            self.fill(&mut line, Bit { index }, carries);
+            let count = line.len() as u32 / 2;
+            bits.push(write_line(&mut line, carries.next(), place)?);
+            carries = Carries {
+                below: carries.next(),
+                count,
+            };
+        }
+        Ok(bits)
+    }
+
+    // Sets up the line of this bit: the variables of the items whose weight has it, and the carries of the line below.
+    fn fill(&self, line: &mut Line, bit: Bit, carries: Carries)
+        ensures { numbers line.new.items ≡ line_of self.now.sum.variables.now self.now.sum.weights.now bit.index carries.below carries.count }
+    {
+        line.clear();
+        for (variable, weight) in self.sum.variables.iter().zip(self.sum.weights) {
+            if bit.is_in(*weight as u32) {
+                line.push(Variable { number: *variable });
+            }
+        }
+        carries.push_to(line);
+    }
+}
+
+// The total is the target, bit by bit.
+fn write_closing<P: Place>(
+    item: Variable,
     target: u32,
-    first: u32,
+    bits: &[Option<Variable>],
     place: &mut P,
 ) -> Result<(), PlaceFault>
-    requires fitting { Fitting variables.now weights.now first }
-    requires some { 1 ≤ length variables.now }
-    ensures { Writes P.Place (sum_clauses adders variables.now weights.now target first) place.old place.new (result_err result) }
+    requires { length bits.now ≤ 11 }
+    ensures { Writes P.Place (plain (closing item.number 0 target (map listed (map number_of bits.now)))) place.old place.new (result_err result) }
 {
-    let bits = write_lines(variables, weights, first, place)?;
-    write_closing(variables[0], target, &bits, place)
+    for (index, bit) in bits.iter().enumerate() {
+        write_bit(item, Bit { index }.is_in(target), *bit, place)?;
+    }
+    Ok(())
 }
 
-impl Totaller for AdderNetwork {
-    const MOST: usize = MOST_ITEMS;
-
-    ghost meaning = { adders };
-
-    ghost lawful = { adders_lawful };
-
-    fn item_limit() -> usize {
-        Self::MOST
-    }
-
-    fn takes(items: usize, target: u32) -> bool {
-        1 <= items && items <= MOST_ITEMS && target <= MOST_TARGET
-    }
-
-    fn ready(
-        variables: &[u32],
-        weights: &[u8],
-        target: u32,
-        first: u32,
-    ) -> Result<u32, TotallerFault> {
-        check_items(variables, weights, first)?;
-        let items = weights.len();
-        if !Self::takes(items, target) {
-            return Err(TotallerFault::NotTaken { items });
-        }
-        let fresh = count_fresh(weights, target);
-        check_fresh(first, fresh)?;
-        Ok(fresh)
-    }
-
-    fn write<P: Place>(
-        variables: &[u32],
-        weights: &[u8],
-        target: u32,
-        first: u32,
-        place: &mut P,
-    ) -> Result<u32, TotallerFault> {
-        let fresh = Self::ready(variables, weights, target, first)?;
-        write_network(variables, weights, target, first, place)?;
-        Ok(fresh)
+// The line's bit is the target's. A line without one has the bit 0.
+fn write_bit<P: Place>(
+    item: Variable,
+    wanted: bool,
+    bit: Option<Variable>,
+    place: &mut P,
+) -> Result<(), PlaceFault>
+    ensures { Writes P.Place (plain (close item.number wanted (listed (number_of bit)))) place.old place.new (result_err result) }
+{
+    match (bit, wanted) {
+        (Some(variable), true) => write_clauses(&[[variable.number as i32]], place),
+        (Some(variable), false) => write_clauses(&[[-(variable.number as i32)]], place),
+        (None, true) => write_clauses(&[[item.number as i32], [-(item.number as i32)]], place),
+        (None, false) => Ok(()),
     }
 }

@@ -6,8 +6,7 @@ use Rattle.places.specs.declared.fault.PlaceFault.{PlaceFault}
 use Rattle.places.specs.declared.fault.PlaceFault.TheVariants.{NoSpace}
 use Rattle.places.specs.declared.place.Place.{Ghosts}
 use Rattle.places.proofs.Written.{wrote_all}
-use Rattle.word_place.specs.declared.word.WordPlace.{WordPlace}
-use Rattle.word_place.specs.Meaning.{free_words, held_words}
+use Rattle.word_place.specs.Meaning.{WordPlace, free_words, held_words}
 use Rattle.totals.specs.Totaller.{Totaller}
 use Rattle.totallers.specs.declared.fault.TotallerFault.{TotallerFault}
 use Rattle.totallers.specs.Writing.{Totalled, TotalledBy, ready_fault, sum_clauses}

@@ -8,10 +8,11 @@ ghost use Rattle.bench_sums.specs.Words.{words_of};
 
 use adder_network::AdderNetwork;
 use running_totals::RunningTotals;
-use totallers::Totaller;
+use totallers::{Sum, Totaller};
 use word_place::WordPlace;
 
-// By running totals: how many words the clauses take, or 0 if the sum is refused.
+// By running totals: how many words the clauses take, or 0 if the sum is refused. The parts of the sum come one by one, as
+// the C interface has them.
 #[unsafe(no_mangle)]
 pub extern "C" fn bench_sums_running(
     variables: &[u32],
@@ -22,7 +23,13 @@ pub extern "C" fn bench_sums_running(
 ) -> usize
     ensures { result ≡ words_of running variables.now weights.now target first (length words.old) }
 {
-    write_words::<RunningTotals>(variables, weights, target, first, words)
+    let sum = Sum {
+        variables,
+        weights,
+        target,
+        first,
+    };
+    write_words::<RunningTotals>(&sum, words)
 }
 
 // The same by the adder network.
@@ -36,22 +43,22 @@ pub extern "C" fn bench_sums_adder(
 ) -> usize
     ensures { result ≡ words_of adders variables.now weights.now target first (length words.old) }
 {
-    write_words::<AdderNetwork>(variables, weights, target, first, words)
+    let sum = Sum {
+        variables,
+        weights,
+        target,
+        first,
+    };
+    write_words::<AdderNetwork>(&sum, words)
 }
 
 // What the buffer holds afterwards is in no contract: a place says what it holds while it is there.
-fn write_words<T: Totaller>(
-    variables: &[u32],
-    weights: &[u8],
-    target: u32,
-    first: u32,
-    words: &mut [i32],
-) -> usize
-    ensures { result ≡ words_of T.Totaller.meaning variables.now weights.now target first (length words.old) }
+fn write_words<T: Totaller>(sum: &Sum<'_>, words: &mut [i32]) -> usize
+    ensures { result ≡ words_of T.Totaller.meaning sum.now.variables.now sum.now.weights.now sum.now.target sum.now.first (length words.old) }
 {
     let mut place = WordPlace::open(words);
-    match T::write(variables, weights, target, first, &mut place) {
-        Ok(_) => place.used_words().len(),
+    match T::write(sum, &mut place) {
+        Ok(_) => place.used().len(),
         Err(_) => 0,
     }
 }

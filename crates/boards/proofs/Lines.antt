@@ -1,10 +1,10 @@
 -- The cells of rows, columns and boxes by their places in the line.
-use Rattle.std.proofs.Common.{◌≡◌, ℕ, zero, suc, ◌+◌, ◌-◌, ◌*◌, ◌/◌, ◌%◌, ◌<◌, ◌≤◌, Bool, true, eqb, [], ◌∷◌, ◌++◌, map, length, get_or, Some, None, filter, sym, ap, ◌∙◌, ap₂, inl, inr, mul-le-mul_right, mul-zero, zero-mul, arith, lit<}
+use Rattle.std.proofs.Common.{◌≡◌, ℕ, zero, suc, ◌+◌, ◌-◌, ◌*◌, ◌/◌, ◌%◌, ◌<◌, ◌≤◌, Bool, true, eqb, List, [], ◌∷◌, ◌++◌, map, length, get_or, Some, None, filter, sym, ap, ◌∙◌, ap₂, inl, inr, mul-le-mul_right, mul-zero, zero-mul, arith, lit<}
 use Rattle.std.specs.List.{range_with_len}
 use Rattle.std.proofs.lemmas.Nat.{div-mul-add, mod-mul-add, div-add-mod', div_below, mod_below, mul-add-lt}
 use Rattle.std.proofs.lemmas.List.FromFn.{get_or-map-range_with_len, length-map-range_with_len}
-use Rattle.std.proofs.lemmas.List.{get_or_append_left, get_or-append_right, get_or_past, length-append}
-use Rattle.std.proofs.lemmas.Bool.{cases_Bool, cases_eq, cases_lt, cond-true, eq-eqb, eqb-true, lt-ltb}
+use Rattle.std.proofs.lemmas.List.{get_or_append_left, get_or-append_right, length-append}
+use Rattle.std.proofs.lemmas.Bool.{cases_Bool, cases_eq, cases_lt, cond-true, cond-false, eq-eqb, eqb-true, lt-ltb, le-ltb}
 use Rattle.boards.specs.declared.board.Board.{Board}
 use Rattle.boards.specs.Line.{line_at}
 use Rattle.boards.specs.Board.{side, cells, row_of, column_of, box_of, line, each_line, lines}
@@ -202,12 +202,16 @@ module _ (b : Board) where
         ]
       ]
 
--- past the last line there is none
-pub no_line : (b : Board) (i : ℕ) → None ≡ line_at b i → get_or (lines b) i [] ≡ []
-no_line b i none =
+-- each number of a line has one
+pub some_line : (b : Board) (i : ℕ) → i < 3 * side b → None ≡ line_at b i → ⊥
+some_line b i l none = let e = none ∙ cond-true _ (Some (get_or (lines b) i [])) None (lt-ltb i (3 * side b) l) in cc
+
+-- and it has its cells
+pub line_is : (b : Board) (i : ℕ) (l : List ℕ) → Some l ≡ line_at b i → l ≡ get_or (lines b) i []
+line_is b i l some =
     elim (cases_lt i (3 * side b)) [
-      | inl l ↦ let e = none ∙ cond-true _ (Some (get_or (lines b) i [])) None (lt-ltb i (3 * side b) l) in grind arith
-      | inr l ↦ get_or_past (lines b) i [] (omega (arith, length_lines b))
+      | inl u ↦ let e = some ∙ cond-true _ (Some (get_or (lines b) i [])) None (lt-ltb i (3 * side b) u) in cc
+      | inr u ↦ absurd (let e = some ∙ cond-false _ (Some (get_or (lines b) i [])) None (le-ltb i (3 * side b) u) in cc)
     ]
 
 kept_small : (t : ℕ → Bool) (a n k m : ℕ) → a + n ≤ m → 0 < m → get_or (filter t (range_with_len a n)) k 0 < m

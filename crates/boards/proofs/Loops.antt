@@ -1,91 +1,37 @@
 -- The base clauses, as loops write them.
-use Rattle.std.proofs.Common.{◌≡◌, ℕ, zero, suc, ◌+◌, ◌-◌, ◌*◌, ◌<◌, ◌≤◌, true, leb, List, [], ◌∷◌, ◌++◌, map, length, get_or, drop, ℤ, pos, sym, refl, ap, ◌∙◌, ap₂, le_of_suc-le-suc, not-suc-le-zero, mul-le-mul, add-one, arith}
+use Rattle.std.proofs.Common.{◌≡◌, ℕ, zero, suc, ◌+◌, ◌-◌, ◌*◌, ◌≤◌, true, leb, List, [], ◌∷◌, ◌++◌, map, length, ℤ, pos, sym, refl, ap, ◌∙◌, ap₂, mul-le-mul, arith}
 use Rattle.std.specs.List.{range_with_len, flat_map}
-use Rattle.std.proofs.lemmas.List.{get_or_default, map-append}
+use Rattle.std.proofs.lemmas.List.{length-map, map-append}
+use Rattle.std.proofs.lemmas.List.Folds.{flat_map-map}
+use Rattle.std.proofs.lemmas.Grind.{flat_map-append}
+use Rattle.std.proofs.lemmas.Simd.{map-map}
+use Rattle.std.proofs.lemmas.List.FromFn.{length-map-range_with_len, map-range_with_len_more}
 use Rattle.std.proofs.lemmas.Bool.Decides.{nat_tests}
 use Rattle.std.proofs.lemmas.Bool.{and_from, le-leb}
 use Rattle.formulas.specs.Clause.{every, right_length, usable, valid}
 use Rattle.formulas.specs.Formula.{is}
 use Rattle.formulas.specs.Numbered.{signed}
-use Rattle.formulas.proofs.Lists.{joined_append}
 use Rattle.formulas.proofs.Numbered.{numbered_joined, numbered_map}
+use Rattle.places.proofs.Loops.{all_up_to, below, up_to}
 use Rattle.boards.specs.declared.board.Board.{Board}
 use Rattle.boards.specs.Board.{side, cells, lines, pairs}
 use Rattle.boards.specs.Atoms.{Atom, at, number, cell_variables}
-use Rattle.boards.specs.Base.{not_both, some_digit, no_later_digit, no_two_digits, not_same, differs, no_repeat, some_digit_each, one_digit_each, each_line_apart, base, clauses_of}
+use Rattle.boards.specs.Base.{not_both, some_digit, some_digit_each, no_later_digit, no_two_digits, not_same, differs, no_repeat, one_digit_each, each_line_apart, base, clauses_of}
 
--- the element that a loop is at
-pub at_list : {X : Type 0} (xs : List X) (i : ℕ) (d : X) → i < length xs → get_or xs i (get_or xs i d) ≡ get_or xs i d
-at_list xs i d l = get_or_default xs i (get_or xs i d) d l
-
--- each element with those that follow it
+-- each cell with those that follow it
 abbrev pub tails : List ℕ → List (ℕ × List ℕ)
 tails [] = []
 tails (x ∷ xs) = (x, xs) ∷ tails xs
-
-pub length_tails : (xs : List ℕ) → length (tails xs) ≡ length xs
-length_tails [] = refl
-length_tails (x ∷ xs) = ap suc (length_tails xs)
-
-pub at_tails : (xs : List ℕ) (i : ℕ) (t : ℕ × List ℕ) → i < length xs → t ≡ (get_or xs i 0, drop (i + 1) xs) → get_or (tails xs) i t ≡ t
-at_tails xs i t l e = go xs i l ∙ sym e
-  where
-    go : (xs : List ℕ) (i : ℕ) → i < length xs → get_or (tails xs) i t ≡ (get_or xs i 0, drop (i + 1) xs)
-    go [] i l = absurd (not-suc-le-zero l)
-    go (x ∷ xs) zero l = refl
-    go (x ∷ xs) (suc i) l = go xs i (le_of_suc-le-suc l) ∙ ap (λ k. (get_or xs i 0, drop k (x ∷ xs))) (ap suc (add-one i) ∙ sym (add-one (suc i)))
-
-joined_map : {X Y A : Type 0} (f : Y → List A) (h : X → Y) (xs : List X) → flat_map f (map h xs) ≡ flat_map (λ x. f (h x)) xs
-joined_map f h [] = refl
-joined_map f h (x ∷ xs) = ap (λ r. f (h x) ++ r) (joined_map f h xs)
 
 module _ (b : Board) where
   abbrev N : Atom → ℕ
   N = number b (cell_variables b)
 
-  -- what one turn of a loop writes
-  abbrev pub same_turn : ℕ → ℕ → ℕ → List (List ℤ)
-  same_turn p q d = clauses_of b (not_both (at p d) (at q d) ∷ [])
-
-  abbrev pub later_turn : ℕ → ℕ → ℕ → List (List ℤ)
-  later_turn c d e = clauses_of b (not_both (at c d) (at c e) ∷ [])
-
-  abbrev pub two_turn : ℕ → ℕ → List (List ℤ)
-  two_turn c d = clauses_of b (no_later_digit b c d)
-
-  abbrev pub differs_turn : ℕ → ℕ → List (List ℤ)
-  differs_turn c q = clauses_of b (not_same b (c, q))
-
-  abbrev pub repeat_turn : ℕ × List ℕ → List (List ℤ)
-  repeat_turn t = clauses_of b (differs b t.0 t.1)
-
-  abbrev pub some_turn : ℕ → List (List ℤ)
-  some_turn c = clauses_of b (some_digit b c ∷ [])
-
-  abbrev pub one_turn : ℕ → List (List ℤ)
-  one_turn c = clauses_of b (no_two_digits b c)
-
-  abbrev pub line_turn : List ℕ → List (List ℤ)
-  line_turn l = clauses_of b (no_repeat b l)
-
-  -- what two loops over later elements write of the cells l
-  repeat_tails : (l : List ℕ) → no_repeat b l ≡ flat_map (λ t. differs b t.0 t.1) (tails l)
-  repeat_tails [] = refl
-  repeat_tails (x ∷ xs) =
-      joined_append (not_same b) (map (λ y. (x, y)) xs) (pairs xs) ∙
-      ap₂ ◌++◌ (joined_map (not_same b) (λ y. (x, y)) xs) (repeat_tails xs)
-
-  pub repeat_is : (l : List ℕ) → clauses_of b (no_repeat b l) ≡ flat_map repeat_turn (tails l)
-  repeat_is l = ap (clauses_of b) (repeat_tails l) ∙ numbered_joined N (λ t. differs b t.0 t.1) (tails l)
-
-  pub differs_is : (c : ℕ) (l : List ℕ) → clauses_of b (differs b c l) ≡ flat_map (differs_turn c) l
-  differs_is c l = numbered_joined N (λ q. not_same b (c, q)) l
-
-  pub not_same_is : (p q : ℕ) → clauses_of b (not_same b (p, q)) ≡ flat_map (same_turn p q) (range_with_len 1 (side b))
-  not_same_is p q = numbered_map N (λ d. not_both (at p d) (at q d)) (range_with_len 1 (side b))
-
-  pub later_is : (c d : ℕ) → clauses_of b (no_later_digit b c d) ≡ flat_map (later_turn c d) (range_with_len (d + 1) (side b - d))
-  later_is c d = numbered_map N (λ e. not_both (at c d) (at c e)) (range_with_len (d + 1) (side b - d))
+  -- what two loops over later cells write
+  repeat_by : (l : List ℕ) → no_repeat b l ≡ flat_map (λ t. differs b t.0 t.1) (tails l)
+  repeat_by [] = refl
+  repeat_by (x ∷ xs) =
+      flat_map-append (not_same b) (map (λ y. (x, y)) xs) (pairs xs) ∙ ap₂ ◌++◌ (flat_map-map (not_same b) (λ y. (x, y)) xs) (repeat_by xs)
 
   -- the digits from a on, up to the side
   two_later : (c a n : ℕ) → a + n ≡ side b + 1 →
@@ -95,39 +41,57 @@ module _ (b : Board) where
       let m : n ≡ side b - a = omega arith in
       map-append (λ p. not_both (at c p.0) (at c p.1)) (map (λ y. (a, y)) (range_with_len (a + 1) n)) (pairs (range_with_len (a + 1) n)) ∙
       ap₂ ◌++◌
-      (map_map (λ y. (a, y)) (range_with_len (a + 1) n) ∙ ap (λ k. map (λ y. not_both (at c a) (at c y)) (range_with_len (a + 1) k)) m)
+      (map-map (λ p. not_both (at c p.0) (at c p.1)) (λ y. (a, y)) (range_with_len (a + 1) n) ∙ ap (λ k. map (λ y. not_both (at c a) (at c y)) (range_with_len (a + 1) k)) m)
       (two_later c (a + 1) n (omega arith))
-    where
-      map_map : (h : ℕ → ℕ × ℕ) (ys : List ℕ) →
-          map (λ p. not_both (at c p.0) (at c p.1)) (map h ys) ≡ map (λ y. not_both (at c (h y).0) (at c (h y).1)) ys
-      map_map h [] = refl
-      map_map h (y ∷ ys) = ap (λ r. not_both (at c (h y).0) (at c (h y).1) ∷ r) (map_map h ys)
 
-  pub two_is : (c : ℕ) → clauses_of b (no_two_digits b c) ≡ flat_map (two_turn c) (range_with_len 1 (side b))
-  two_is c = ap (clauses_of b) (two_later c 1 (side b) (omega arith)) ∙ numbered_joined N (no_later_digit b c) (range_with_len 1 (side b))
+  -- what each loop writes
+  pub repeat_is : (l : List ℕ) → clauses_of b (no_repeat b l) ≡ flat_map (λ t. clauses_of b (differs b t.0 t.1)) (tails l)
+  repeat_is l = ap (clauses_of b) (repeat_by l) ∙ numbered_joined N (λ t. differs b t.0 t.1) (tails l)
 
-  pub some_each_is : clauses_of b (some_digit_each b) ≡ flat_map some_turn (range_with_len 0 (cells b))
-  some_each_is = numbered_map N (some_digit b) (range_with_len 0 (cells b))
+  pub differs_is : (c : ℕ) (l : List ℕ) → clauses_of b (differs b c l) ≡ flat_map (λ q. clauses_of b (not_same b (c, q))) l
+  differs_is c l = numbered_joined N (λ q. not_same b (c, q)) l
 
-  pub one_each_is : clauses_of b (one_digit_each b) ≡ flat_map one_turn (range_with_len 0 (cells b))
-  one_each_is = numbered_joined N (no_two_digits b) (range_with_len 0 (cells b))
+  pub two_is : (c : ℕ) → clauses_of b (no_two_digits b c) ≡ flat_map (λ d. clauses_of b (no_later_digit b c d)) (up_to (side b) 1)
+  two_is c =
+      ap (clauses_of b) (two_later c 1 (side b) (omega arith) ∙ ap (flat_map (no_later_digit b c)) (all_up_to (side b))) ∙
+      numbered_joined N (no_later_digit b c) (up_to (side b) 1)
 
-  pub lines_is : clauses_of b (each_line_apart b) ≡ flat_map line_turn (lines b)
-  lines_is = numbered_joined N (no_repeat b) (lines b)
+  pub later_is : (c d : ℕ) → clauses_of b (no_later_digit b c d) ≡ flat_map (λ e. clauses_of b (not_both (at c d) (at c e) ∷ [])) (up_to (side b) (d + 1))
+  later_is c d =
+      let e : side b - d ≡ side b + 1 - (d + 1) = omega arith in
+      ap (λ n. clauses_of b (map (λ e. not_both (at c d) (at c e)) (range_with_len (d + 1) n))) e ∙
+      numbered_map N (λ e. not_both (at c d) (at c e)) (up_to (side b) (d + 1))
 
-  pub base_is : clauses_of b (base b) ≡ clauses_of b (some_digit_each b) ++ (clauses_of b (one_digit_each b) ++ clauses_of b (each_line_apart b))
+  pub same_is : (p q : ℕ) → clauses_of b (not_same b (p, q)) ≡ flat_map (λ d. clauses_of b (not_both (at p d) (at q d) ∷ [])) (up_to (side b) 1)
+  same_is p q =
+      ap (λ ds. clauses_of b (map (λ d. not_both (at p d) (at q d)) ds)) (all_up_to (side b)) ∙
+      numbered_map N (λ d. not_both (at p d) (at q d)) (up_to (side b) 1)
+
+  -- and the three loops of the base clauses
+  pub base_is : clauses_of b (base b) ≡ flat_map (λ c. clauses_of b (some_digit b c ∷ [])) (below (cells b) 0) ++
+      (flat_map (λ c. clauses_of b (no_two_digits b c)) (below (cells b) 0) ++ flat_map (λ l. clauses_of b (no_repeat b l)) (lines b))
   base_is =
       map-append (map (signed N)) (some_digit_each b) (one_digit_each b ++ each_line_apart b) ∙
-      ap (λ r. clauses_of b (some_digit_each b) ++ r) (map-append (map (signed N)) (one_digit_each b) (each_line_apart b))
+      ap₂ ◌++◌ (numbered_map N (some_digit b) (below (cells b) 0))
+      (map-append (map (signed N)) (one_digit_each b) (each_line_apart b) ∙
+      ap₂ ◌++◌ (numbered_joined N (no_two_digits b) (below (cells b) 0)) (numbered_joined N (no_repeat b) (lines b)))
+
+  -- the variables of the first n digits of a cell
+  abbrev pub first_digits : ℕ → ℕ → List ℤ
+  first_digits c n = map (λ d. pos (number b 0 (at c d))) (range_with_len 1 n)
+
+  pub one_digit_more : (c d : ℕ) (xs : List ℤ) (x : ℤ) → 1 ≤ d → xs ≡ first_digits c (d - 1) → x ≡ pos (number b 0 (at c d)) →
+      xs ++ x ∷ [] ≡ first_digits c (d + 1 - 1)
+  one_digit_more c d xs x l before now =
+      let n : d - 1 + 1 ≡ d + 1 - 1 = omega arith in
+      ap₂ (λ p y. p ++ y ∷ []) before now ∙ sym (map-range_with_len_more (λ d. pos (number b 0 (at c d))) 1 (d - 1) d (omega arith)) ∙ ap (first_digits c) n
 
   -- the variables of a cell, as a clause
   pub digits_clause : (c a n : ℕ) → map (λ d. pos (number b 0 (at c d))) (range_with_len a n) ≡ map (signed N) (map (λ d. is (at c d)) (range_with_len a n))
-  digits_clause c a zero = refl
-  digits_clause c a (suc n) = ap (λ r. pos (c * side b + a) ∷ r) (digits_clause c (a + 1) n)
+  digits_clause c a n = sym (map-map (signed N) (λ d. is (at c d)) (range_with_len a n))
 
   length_digits : (c a n : ℕ) → length (map (signed N) (map (λ d. is (at c d)) (range_with_len a n))) ≡ n
-  length_digits c a zero = refl
-  length_digits c a (suc n) = ap suc (length_digits c (a + 1) n)
+  length_digits c a n = length-map (map (λ d. is (at c d)) (range_with_len a n)) (signed N) ∙ length-map-range_with_len (λ d. is (at c d)) a n
 
   digits_usable : (c a n : ℕ) → 1 ≤ a → c * side b + (a + n) ≤ 65536 → every usable (map (signed N) (map (λ d. is (at c d)) (range_with_len a n))) ≡ true
   digits_usable c a zero l u = refl

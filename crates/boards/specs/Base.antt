@@ -49,3 +49,7 @@ base b = some_digit_each b ++ (one_digit_each b ++ each_line_apart b)
 -- a formula in clauses, where the cells' variables come before the fresh ones
 abbrev pub clauses_of : Board → Formula Atom → List (List ℤ)
 clauses_of b f = numbered (number b (cell_variables b)) f
+
+-- the clauses of an empty board
+abbrev pub base_clauses : Board → List (List ℤ)
+base_clauses b = clauses_of b (base b)

@@ -1,28 +1,32 @@
-// What is said of one cell, of two cells and of cells that are all to differ, as clauses in a place.
-ghost use Rattle.std.specs.Prelude.{◌≡◌, ◌≤◌, [], ◌∷◌};
+// What is said of one cell, of two cells and of cells that are all to differ, as clauses in a place. The board and the
+// place stay two parameters: a struct that lends both would have to promise, at each call, that it still lends the same.
+ghost use Rattle.std.specs.Prelude.{◌≡◌, ◌≤◌, [], ◌∷◌, pos};
 ghost use Rattle.std.specs.Result.{result_err};
 ghost use Rattle.places.specs.Written.{Writes};
 ghost use Rattle.boards.specs.Atoms.{at, number};
 ghost use Rattle.boards.specs.Base.{clauses_of, differs, no_later_digit, no_repeat, no_two_digits, not_both, not_same, some_digit};
 
 use crate::board::Board;
+use arrayvec::ArrayVec;
 use places::{Place, PlaceFault};
 
 // That a cell has a digit.
 #[derive(Clone, Copy)]
 struct Mark {
     cell: u8,
-    digit: usize,
+    digit: u8,
+    ghost low: { 1 ≤ digit },
+    ghost high: { digit ≤ 16 },
 }
 
-// The number of the variable that says so.
-fn variable(board: &Board, mark: Mark) -> u16
-    requires low { 1 ≤ mark.digit }
-    requires high { mark.digit ≤ 16 }
-    ensures value { result ≡ number board.now 0 (at mark.cell mark.digit) }
-    ensures bound { 1 ≤ result }
-{
-    board.variable(mark.cell, mark.digit as u8) as u16
+impl Mark {
+    // The variable that says so, as a literal.
+    fn literal(self, board: &Board) -> i32
+        ensures value { result ≡ pos (number board.now 0 (at self.cell self.digit)) }
+        ensures bound { number board.now 0 (at self.cell self.digit) ≤ 4335 }
+    {
+        board.variable(self.cell, self.digit) as i32
+    }
 }
 
 // The cell has a digit.
@@ -33,18 +37,11 @@ pub(crate) fn write_some_digit<P: Place>(
 ) -> Result<(), PlaceFault>
     ensures { Writes P.Place (clauses_of board.now (some_digit board.now cell ∷ [])) place.old place.new (result_err result) }
 {
-    let side = board.side();
-    let mut clause = [0; 16];
-    for index in 0..side {
-        clause[index] = variable(
-            board,
-            Mark {
-                cell,
-                digit: index + 1,
-            },
-        ) as i32;
+    let mut clause = ArrayVec::<i32, 16>::new();
+    for digit in 1..=board.side() as u8 {
+        clause.push(Mark { cell, digit }.literal(board));
     }
-    place.put(&clause[0..side])
+    place.put(&clause)
 }
 
 // The cell has no two digits.
@@ -55,8 +52,8 @@ pub(crate) fn write_no_two_digits<P: Place>(
 ) -> Result<(), PlaceFault>
     ensures { Writes P.Place (clauses_of board.now (no_two_digits board.now cell)) place.old place.new (result_err result) }
 {
-    for index in 0..board.side() {
-        write_no_later_digit(board, cell, index + 1, place)?;
+    for digit in 1..=board.side() as u8 {
+        write_no_later_digit(board, Mark { cell, digit }, place)?;
     }
     Ok(())
 }
@@ -64,20 +61,17 @@ pub(crate) fn write_no_two_digits<P: Place>(
 // A cell that has the digit has none of the larger ones.
 fn write_no_later_digit<P: Place>(
     board: &Board,
-    cell: u8,
-    digit: usize,
+    mark: Mark,
     place: &mut P,
 ) -> Result<(), PlaceFault>
-    requires low { 1 ≤ digit }
-    requires high { digit ≤ 16 }
-    ensures { Writes P.Place (clauses_of board.now (no_later_digit board.now cell digit)) place.old place.new (result_err result) }
+    ensures { Writes P.Place (clauses_of board.now (no_later_digit board.now mark.cell mark.digit)) place.old place.new (result_err result) }
 {
-    for index in digit..board.side() {
+    for digit in mark.digit + 1..=board.side() as u8 {
         let later = Mark {
-            cell,
-            digit: index + 1,
+            cell: mark.cell,
+            digit,
         };
-        write_not_both(board, Mark { cell, digit }, later, place)?;
+        write_not_both(board, mark, later, place)?;
     }
     Ok(())
 }
@@ -90,8 +84,10 @@ pub fn write_no_repeat<P: Place>(
 ) -> Result<(), PlaceFault>
     ensures { Writes P.Place (clauses_of board.now (no_repeat board.now cells.now)) place.old place.new (result_err result) }
 {
-    for (index, cell) in cells.iter().enumerate() {
-        write_differs(board, *cell, &cells[index + 1..], place)?;
+    let mut rest = cells;
+    while let Some((cell, others)) = rest.split_first() {
+        write_differs(board, *cell, others, place)?;
+        rest = others;
     }
     Ok(())
 }
@@ -120,17 +116,13 @@ fn write_not_same<P: Place>(
 ) -> Result<(), PlaceFault>
     ensures { Writes P.Place (clauses_of board.now (not_same board.now (first, second))) place.old place.new (result_err result) }
 {
-    for index in 0..board.side() {
-        let digit = index + 1;
-        write_not_both(
-            board,
-            Mark { cell: first, digit },
-            Mark {
-                cell: second,
-                digit,
-            },
-            place,
-        )?;
+    for digit in 1..=board.side() as u8 {
+        let first = Mark { cell: first, digit };
+        let second = Mark {
+            cell: second,
+            digit,
+        };
+        write_not_both(board, first, second, place)?;
     }
     Ok(())
 }
@@ -142,11 +134,7 @@ fn write_not_both<P: Place>(
     second: Mark,
     place: &mut P,
 ) -> Result<(), PlaceFault>
-    requires first { (1 ≤ first.digit) × (first.digit ≤ 16) }
-    requires second { (1 ≤ second.digit) × (second.digit ≤ 16) }
     ensures { Writes P.Place (clauses_of board.now (not_both (at first.cell first.digit) (at second.cell second.digit) ∷ [])) place.old place.new (result_err result) }
 {
-    let first = variable(board, first) as i32;
-    let second = variable(board, second) as i32;
-    place.put(&[-first, -second])
+    place.put(&[-first.literal(board), -second.literal(board)])
 }

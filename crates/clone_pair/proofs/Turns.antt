@@ -9,6 +9,7 @@ use Rattle.places.specs.declared.place.Place.{Ghosts}
 use Rattle.places.specs.Put.{put_fault}
 use Rattle.places.specs.Written.{Writes}
 use Rattle.places.proofs.Written.{writes_put}
+use Rattle.places.proofs.Loops.{all_up_to, up_to}
 use Rattle.boards.specs.declared.board.Board.{Board}
 use Rattle.boards.specs.Board.{side}
 use Rattle.boards.specs.Atoms.{number}
@@ -20,8 +21,8 @@ module _ (b : Board) (p q : ℕ) where
   turn d = (neg_ℤ (pos (p * side b + d)) ∷ pos (q * side b + d) ∷ []) ∷ []
 
   -- wherever the fresh numbers begin
-  pub same_is : (f : ℕ) → clauses_from b f (same b p q) ≡ flat_map turn (range_with_len 1 (side b))
-  same_is f = numbered_map (number b (f - 1)) (follows p q) (range_with_len 1 (side b))
+  pub same_is : (f : ℕ) → clauses_from b f (same b p q) ≡ flat_map turn (up_to (side b) 1)
+  same_is f = numbered_map (number b (f - 1)) (follows p q) (range_with_len 1 (side b)) ∙ ap (flat_map turn) (all_up_to (side b))
 
   -- one clause as the code puts it
   module _ {P : Type 0} (𝓟 : Ghosts P) (d : ℕ) (low : 1 ≤ d) (x y : ℤ) where

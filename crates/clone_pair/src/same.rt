@@ -16,9 +16,9 @@ pub(crate) fn write_same<P: Place>(
 ) -> Result<(), PlaceFault>
     ensures { (f : ℕ) → Writes P.Place (clauses_from board.now f (same board.now one other)) place.old place.new (result_err result) }
 {
-    for index in 0..board.side() as u8 {
-        let one = board.variable(one, index + 1) as i32;
-        let other = board.variable(other, index + 1) as i32;
+    for digit in 1..=board.side() as u8 {
+        let one = board.variable(one, digit) as i32;
+        let other = board.variable(other, digit) as i32;
         place.put(&[-one, other])?;
     }
     Ok(())

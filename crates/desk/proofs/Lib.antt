@@ -1,2 +1,3 @@
-pub mod Splits
+mod Chains
+mod Reading
 mod Encodings

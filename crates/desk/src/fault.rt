@@ -1,19 +1,22 @@
 ghost use Rattle.std.specs.Prelude.{◌≡◌};
-ghost use Rattle.desk.specs.declared.fault.EncodeFault.TheVariants.{Memory as NoMemory, Text};
-ghost use Rattle.desk.specs.declared.fault.WriteFault.TheVariants.{Draft as OfDraft, Memory};
+ghost use Rattle.desk.specs.declared.fault.EncodeFault.TheVariants.{Memory, Text};
 
 use crate::statement::TextFault;
 use draft::DraftFault;
 use std::alloc::AllocError;
+use thiserror::Error;
 
 // Why a draft text has no clause text.
-#[derive(Clone, Copy)]
+#[derive(Clone, Copy, PartialEq, Eq, Debug, Error)]
 pub enum EncodeFault {
     // The text is no draft text.
+    #[error("{0}")]
     Text(TextFault),
     // What the line says is refused by the draft.
+    #[error("line {line}: {fault}")]
     Draft { line: usize, fault: DraftFault },
     // There is not enough memory.
+    #[error("not enough memory")]
     Memory,
 }
 
@@ -26,32 +29,9 @@ impl From<TextFault> for EncodeFault {
 }
 
 impl From<AllocError> for EncodeFault {
-    ghost from_gives = { λ e r. r ≡ NoMemory };
+    ghost from_gives = { λ e r. r ≡ Memory };
 
     fn from(_fault: AllocError) -> EncodeFault {
         EncodeFault::Memory
-    }
-}
-
-// Why a draft was not written.
-#[derive(Clone, Copy)]
-pub enum WriteFault {
-    Draft(DraftFault),
-    Memory,
-}
-
-impl From<DraftFault> for WriteFault {
-    ghost from_gives = { λ e r. r ≡ OfDraft e };
-
-    fn from(fault: DraftFault) -> WriteFault {
-        WriteFault::Draft(fault)
-    }
-}
-
-impl From<AllocError> for WriteFault {
-    ghost from_gives = { λ e r. r ≡ Memory };
-
-    fn from(_fault: AllocError) -> WriteFault {
-        WriteFault::Memory
     }
 }

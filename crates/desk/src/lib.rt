@@ -4,7 +4,6 @@
 mod encoding;
 mod fault;
 mod read;
-mod scan;
 mod statement;
 mod words;
 

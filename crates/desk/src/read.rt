@@ -1,10 +1,10 @@
 // Reads a draft text.
-ghost use Rattle.std.specs.Prelude.{◌≡◌};
-ghost use Rattle.desk.specs.DraftText.{after_side, digit, known, read, statement_of};
+ghost use Rattle.std.specs.Prelude.{◌≡◌, length};
+ghost use Rattle.desk.specs.DraftText.{after_side, digit, known, lines_of, read, statement_of};
 ghost use Rattle.desk.specs.Rest.{Advances};
 
 use crate::statement::{Reason, SideLine, Statement, TextFault};
-use crate::words::{next_line, next_word, without_comment};
+use crate::words::{is_blank, is_line_feed, without_comment};
 use boards::Board;
 
 // The side that a text says, and the line that says it; or the first line that is wrong.
@@ -12,76 +12,72 @@ pub fn read_draft(text: &[u8]) -> Result<SideLine, TextFault>
     ensures { result ≡ read text.now }
 {
     let mut found = None;
-    let mut line = 1;
-    let mut rest = text;
-    loop {
-        let (bytes, after) = next_line(rest);
-        found = advance(found, line, read_line(bytes))?;
-        match after {
-            Some(more) => rest = more,
-            None => break,
-        }
-        line += 1;
+    for (index, bytes) in text.split(is_line_feed).enumerate() {
+        found = advance(found, index + 1, read_line(bytes))?;
     }
-    let reason = Reason::NoSide;
-    found.ok_or(TextFault { line, reason })
+    found.ok_or_else(|| TextFault {
+        line: line_count(text),
+        reason: Reason::NoSide,
+    })
 }
 
-// What is known of the side once one more line is read.
+// How many lines the text has.
+fn line_count(text: &[u8]) -> usize
+    ensures { result ≡ length (lines_of text.now) }
+{
+    text.split(is_line_feed).count()
+}
+
+// What is known of the side once one more line is read. It is one `match`, where each case stands once: which
+// fault a wrong line is depends on whether the side is known, so that a `?` on what the line says comes too early.
 fn advance(
     found: Option<SideLine>,
     line: usize,
-    statement: Statement,
+    said: Result<Option<Statement>, Reason>,
 ) -> Result<Option<SideLine>, TextFault>
-    ensures { Advances found line statement result }
+    ensures { Advances found line said result }
 {
-    match (found, statement) {
-        (_, Statement::Nothing) => Ok(found),
-        (None, Statement::Side(side)) => Ok(Some(SideLine { line, side })),
-        (None, Statement::Wrong(reason)) => Err(TextFault { line, reason }),
-        (Some(_), Statement::Side(_)) => {
+    match (found, said) {
+        (_, Ok(None)) => Ok(found),
+        (None, Ok(Some(Statement::Side(side)))) => Ok(Some(SideLine { line, side })),
+        (None, Err(reason)) => Err(TextFault { line, reason }),
+        (Some(_), Ok(Some(Statement::Side(_)))) => {
             let reason = Reason::SecondSide;
             Err(TextFault { line, reason })
         }
-        (Some(_), Statement::Wrong(reason)) => {
+        (Some(_), Err(reason)) => {
             let reason = reason_after_side(reason);
             Err(TextFault { line, reason })
         }
     }
 }
 
-// What a line says, where it is the first that says something.
-fn read_line(line: &[u8]) -> Statement
+// What a line says, where it is the first that says something; or what is wrong with it.
+fn read_line(line: &[u8]) -> Result<Option<Statement>, Reason>
     ensures { result ≡ statement_of line.now }
 {
-    let Some((word, rest)) = next_word(without_comment(line)) else {
-        return Statement::Nothing;
+    let mut words = without_comment(line)
+        .split(is_blank)
+        .filter(|word| !word.is_empty());
+    let Some(word) = words.next() else {
+        return Ok(None);
     };
     if word != b"side".as_slice() {
-        return Statement::Wrong(Reason::UnknownStatement);
+        return Err(Reason::UnknownStatement);
     }
-    let Some((number, rest)) = next_word(rest) else {
-        return Statement::Wrong(Reason::SideWords);
-    };
-    if next_word(rest).is_some() {
-        return Statement::Wrong(Reason::SideWords);
+    let number = words.next().ok_or(Reason::SideWords)?;
+    if words.next().is_some() {
+        return Err(Reason::SideWords);
     }
-    match known_side(number) {
-        Some(side) => Statement::Side(side),
-        None => Statement::Wrong(Reason::SideNumber),
-    }
+    let side = known_side(number).ok_or(Reason::SideNumber)?;
+    Ok(Some(Statement::Side(side)))
 }
 
 // The side of a board.
 fn known_side(word: &[u8]) -> Option<usize>
     ensures { result ≡ known (digit word.now) }
 {
-    let side = one_digit(word)?;
-    if Board::of_side(side).is_some() {
-        Some(side)
-    } else {
-        None
-    }
+    one_digit(word).filter(|side| Board::of_side(*side).is_some())
 }
 
 // A number of one digit.
@@ -89,7 +85,7 @@ fn one_digit(word: &[u8]) -> Option<usize>
     ensures { result ≡ digit word.now }
 {
     match word {
-        [byte] if *byte >= b'0' && *byte <= b'9' => Some((*byte - b'0') as usize),
+        [byte] if byte.is_ascii_digit() => Some(usize::from(*byte - b'0')),
         _ => None,
     }
 }

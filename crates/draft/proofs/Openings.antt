@@ -1,7 +1,6 @@
 -- What comes of opening a draft, by how far it got.
-use Rattle.std.proofs.Common.{◌≡◌, ℕ, ◌+◌, ◌<◌, Bool, true, false, cond, eqb, leb, ◌++◌, length, take, drop, IsErrAnd, Some, None, Ok, Err, sum_by, Option, Result, sym, refl, ap, ◌∙◌, arith}
+use Rattle.std.proofs.Common.{◌≡◌, ℕ, ◌+◌, ◌<◌, Bool, true, false, cond, eqb, leb, ◌++◌, length, take, drop, Some, None, sum_by, Option, sym, refl, ap, ◌∙◌, arith}
 use Rattle.std.specs.Option.{option_map}
-use Rattle.std.specs.Result.{result_err}
 use Rattle.std.proofs.lemmas.List.{nil_from_length}
 use Rattle.std.proofs.lemmas.Bool.{cond-true, cond-false, eq-eqb, ne_eqb}
 use Rattle.places.specs.declared.fault.PlaceFault.{PlaceFault}
@@ -15,8 +14,8 @@ use Rattle.boards.specs.Board.{board_of}
 use Rattle.draft.specs.declared.fault.DraftFault.{DraftFault}
 use Rattle.draft.specs.declared.fault.DraftFault.TheVariants.{NotEmpty, Place}
 use Rattle.draft.specs.Fault.{by_draft, refusal}
-use Rattle.draft.specs.declared.state.Draft.{Draft}
-use Rattle.draft.specs.Opening.{Opened, base_clauses, open_fault, open_fault_on, open_refusal, open_refusal_on}
+use Rattle.boards.specs.Base.{base_clauses}
+use Rattle.draft.specs.Opening.{open_fault, open_fault_on, open_refusal, open_refusal_on}
 
 module _ {P : Type 0} (𝓟 : Ghosts P) (side : ℕ) (p : P) where
   -- a fault as it is reported
@@ -66,12 +65,3 @@ module _ {P : Type 0} (𝓟 : Ghosts P) (side : ℕ) (p : P) where
           let none = nil_from_length (𝓟.held p) empty in
           let all : 𝓟.held q ≡ take (fitting 𝓟.charge (𝓟.free p) (base_clauses b)) (base_clauses b) = w.holds ∙ ap (λ l. l ++ take (fitting 𝓟.charge (𝓟.free p) (base_clauses b)) (base_clauses b)) none in
           (holds ∙ sym none, room ∙ ap (λ l. 𝓟.free q + sum_by 𝓟.charge l) all ∙ w.room)
-
-      -- what is handed on then
-      pub broken : (e : Result Draft DraftFault) (f : PlaceFault) → IsErrAnd e (λ y. y ≡ Place f) → Writes 𝓟 (base_clauses b) p q (Some f) →
-          (r : P) → 𝓟.held r ≡ take 0 (𝓟.held q) → 𝓟.free r ≡ 𝓟.free q + sum_by 𝓟.charge (drop 0 (𝓟.held q)) →
-          record { fault : result_err e ≡ open_fault 𝓟 side p; refusal : option_map refusal (result_err e) ≡ open_refusal 𝓟 side p; opened : Opened 𝓟 side p r e }
-      broken (Ok d) f by w r holds room = absurd by
-      broken (Err y) f by w r holds room =
-          let fault : Some y ≡ open_fault 𝓟 side p = ap Some by ∙ inside (Some f) w in
-          record { fault = fault; refusal = reported (Some y) fault; opened = undone (Some f) w r holds room }

@@ -7,16 +7,12 @@ use Rattle.places.specs.Fault.{by_place}
 use Rattle.places.specs.Written.{fitting}
 use Rattle.boards.specs.declared.board.Board.{Board}
 use Rattle.boards.specs.Atoms.{cell_variables}
-use Rattle.boards.specs.Base.{base, clauses_of}
+use Rattle.boards.specs.Base.{base_clauses}
 use Rattle.boards.specs.Board.{board_of}
 use Rattle.draft.specs.declared.fault.DraftFault.{DraftFault}
 use Rattle.draft.specs.declared.fault.DraftFault.TheVariants.{Side, NotEmpty, Place}
 use Rattle.draft.specs.declared.state.Draft.{Draft}
 use Rattle.draft.specs.Fault.{by_draft}
-
--- the clauses of an empty board
-abbrev pub base_clauses : Board → List (List ℤ)
-base_clauses b = clauses_of b (base b)
 
 -- the first that is wrong: the side; the place, which has to be empty; its space, for the charges together
 abbrev pub open_fault_on : (List ℤ → ℕ) → Option Board → List (List ℤ) → ℕ → Option DraftFault

@@ -1,12 +1,13 @@
 // The program `dulovamish`: writes a draft text as a clause text for SAT solvers.
 #![tactic(auto)]
 
-use desk::{EncodeFault, Reason, encode, statement_word};
-use draft::DraftFault;
+use desk::{EncodeFault, Reason, TextFault, encode, statement_word};
+use shell::{StreamFault, ended, write_output};
 use std::alloc::{AllocError, Global};
-use std::io::{Read, Write};
+use std::io::Read;
 use std::process::ExitCode;
 use std::{env, fs, io};
+use thiserror::Error;
 
 const HELP: &str = "dulovamish: writes a draft of a Sudoku puzzle as a clause text for SAT solvers
 
@@ -22,69 +23,89 @@ A draft text has one statement to a line:
 
 What is wrong is said on standard error, and the exit status is then 1.";
 
-// The program ends with status 1; what is wrong has been said.
-#[derive(Drop)]
-struct Stopped;
-
-fn main(rt: HostRuntime) -> ExitCode {
-    match work(&rt) {
-        Ok(()) => ExitCode::SUCCESS,
-        Err(Stopped) => ExitCode::FAILURE,
-    }
+// Why the program did not do what it was asked.
+#[derive(Debug, Drop, Error)]
+enum Fault<'a> {
+    #[error("the arguments cannot be read")]
+    Arguments,
+    #[error("no command; `dulovamish help` lists them")]
+    NoCommand,
+    #[error("unknown command; `dulovamish help` lists them")]
+    UnknownCommand,
+    #[error("{name}: {error}")]
+    Input {
+        name: &'a str,
+        error: io::Error,
+    },
+    #[error(transparent)]
+    Output(#[from] StreamFault),
+    #[error("not enough memory")]
+    Memory,
+    // The text has no clauses.
+    #[error("{name}: {fault}")]
+    Draft {
+        name: &'a str,
+        fault: EncodeFault,
+    },
+    // No statement begins with the word.
+    #[error("{name}: {fault} `{word}`")]
+    Unknown {
+        name: &'a str,
+        fault: TextFault,
+        word: String,
+    },
 }
 
-fn work(rt: &HostRuntime) -> Result<(), Stopped> {
-    match words(rt) {
-        Ok(words) => run(rt, words.as_slice()),
-        Err(_) => stop(rt, "the arguments cannot be read"),
+fn main(rt: HostRuntime) -> ExitCode {
+    let mut words = Vec::new(rt.alloc());
+    ended(&rt, "dulovamish", work(&rt, &mut words))
+}
+
+fn work<'a>(rt: &HostRuntime, words: &'a mut Vec<String>) -> Result<ExitCode, Fault<'a>> {
+    // No `map_err`: its closure's result would name a lifetime that its argument does not, which gets no proof.
+    if read_words(rt, words).is_err() {
+        return Err(Fault::Arguments);
     }
+    run(rt, words.as_slice())
 }
 
 // The words behind the program's name.
-fn words(rt: &HostRuntime) -> io::Result<Vec<String>> {
-    let mut words = Vec::new(rt.alloc());
+fn read_words(rt: &HostRuntime, words: &mut Vec<String>) -> io::Result<()> {
     for word in env::args(rt)?.skip(1) {
         words.push(word)?;
     }
-    Ok(words)
+    Ok(())
 }
 
-fn run(rt: &HostRuntime, words: &[String]) -> Result<(), Stopped> {
+fn run<'a>(rt: &HostRuntime, words: &'a [String]) -> Result<ExitCode, Fault<'a>> {
     match words {
-        [command] if command.as_str() == "help" => help(rt),
+        [command] if command.as_str() == "help" => Ok(help(rt)),
         [command] if command.as_str() == "encode" => encode_file(rt, "-"),
         [command, file] if command.as_str() == "encode" => encode_file(rt, file.as_str()),
-        [] => stop(rt, "no command; `dulovamish help` lists them"),
-        _ => stop(rt, "unknown command; `dulovamish help` lists them"),
+        [] => Err(Fault::NoCommand),
+        _ => Err(Fault::UnknownCommand),
     }
 }
 
-fn help(rt: &HostRuntime) -> Result<(), Stopped> {
+// A help text that cannot be printed is told by the exit status alone.
+fn help(rt: &HostRuntime) -> ExitCode {
     match rt.println(HELP) {
-        Ok(()) => Ok(()),
-        Err(_) => Err(Stopped),
+        Ok(()) => ExitCode::SUCCESS,
+        Err(_) => ExitCode::FAILURE,
     }
 }
 
-// Says what is wrong.
-fn stop(rt: &HostRuntime, what: &str) -> Result<(), Stopped> {
-    let _ = eprintln!(rt; "dulovamish: {what}");
-    Err(Stopped)
-}
-
-fn encode_file(rt: &HostRuntime, file: &str) -> Result<(), Stopped> {
+fn encode_file<'a>(rt: &HostRuntime, file: &'a str) -> Result<ExitCode, Fault<'a>> {
     let name = if file == "-" { "standard input" } else { file };
-    let text = match read_all(rt, file) {
-        Ok(text) => text,
-        Err(error) => {
-            let _ = eprintln!(rt; "dulovamish: {name}: {error}");
-            return Err(Stopped);
-        }
-    };
-    match encode(rt.alloc(), text.as_slice()) {
-        Ok(clauses) => write_out(rt, clauses.as_slice()),
-        Err(fault) => explain(rt, name, text.as_slice(), fault),
-    }
+    let text = read_all(rt, file).map_err(|error| Fault::Input { name, error })?;
+    let clauses = encode(rt.alloc(), text.as_slice()).map_err(|fault| explained(
+        rt.alloc(),
+        name,
+        text.as_slice(),
+        fault,
+    ))?;
+    write_output(rt, clauses.as_slice())?;
+    Ok(ExitCode::SUCCESS)
 }
 
 fn read_all(rt: &HostRuntime, file: &str) -> io::Result<Vec<u8>> {
@@ -96,53 +117,22 @@ fn read_all(rt: &HostRuntime, file: &str) -> io::Result<Vec<u8>> {
     Ok(text)
 }
 
-fn write_out(rt: &HostRuntime, clauses: &[u8]) -> Result<(), Stopped> {
-    match rt.stdout().write_all(clauses) {
-        Ok(()) => Ok(()),
-        Err(error) => {
-            let _ = eprintln!(rt; "dulovamish: standard output: {error}");
-            Err(Stopped)
+// Why a text has no clauses; an unknown statement is told with its word, where there is memory for it.
+fn explained<'a>(heap: Global, name: &'a str, text: &[u8], fault: EncodeFault) -> Fault<'a> {
+    match fault {
+        EncodeFault::Memory => Fault::Memory,
+        EncodeFault::Text(unknown) if unknown.reason == Reason::UnknownStatement => {
+            match printable(heap, statement_word(text, unknown.line)) {
+                Ok(word) => Fault::Unknown {
+                    name,
+                    fault: unknown,
+                    word,
+                },
+                Err(_) => Fault::Draft { name, fault },
+            }
         }
+        _ => Fault::Draft { name, fault },
     }
-}
-
-// Says why a text has no clauses.
-fn explain(rt: &HostRuntime, name: &str, text: &[u8], fault: EncodeFault) -> Result<(), Stopped> {
-    let (line, what) = match fault {
-        EncodeFault::Memory => return stop(rt, "not enough memory"),
-        EncodeFault::Draft { line, fault } => match fault {
-            DraftFault::Side => (line, "the side is not 4 or 9"),
-            _ => (
-                line,
-                "the clauses of this board do not fit the room that the program has for them",
-            ),
-        },
-        EncodeFault::Text(fault) => match fault.reason {
-            Reason::UnknownStatement => return unknown(
-                rt,
-                name,
-                fault.line,
-                statement_word(text, fault.line),
-            ),
-            Reason::NoSide => (
-                fault.line,
-                "no `side` statement; a draft begins with `side 4` or `side 9`",
-            ),
-            Reason::SecondSide => (fault.line, "a second `side` statement"),
-            Reason::SideWords => (fault.line, "`side` takes one number, 4 or 9"),
-            Reason::SideNumber => (fault.line, "the side is not 4 or 9"),
-        },
-    };
-    let _ = eprintln!(rt; "dulovamish: {name}: line {line}: {what}");
-    Err(Stopped)
-}
-
-fn unknown(rt: &HostRuntime, name: &str, line: usize, word: &[u8]) -> Result<(), Stopped> {
-    let _ = match printable(rt.alloc(), word) {
-        Ok(word) => eprintln!(rt; "dulovamish: {name}: line {line}: unknown statement `{word}`"),
-        Err(_) => eprintln!(rt; "dulovamish: {name}: line {line}: unknown statement"),
-    };
-    Err(Stopped)
 }
 
 // A word as a terminal can show it: `?` stands for each byte that is no printable ASCII character.

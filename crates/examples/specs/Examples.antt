@@ -10,7 +10,7 @@ use Rattle.totallers.specs.Writing.{ready_fault, sum_clauses}
 use Rattle.boards.specs.declared.board.Board.{Board}
 use Rattle.boards.specs.Atoms.{cell_variables}
 use Rattle.boards.specs.Board.{three_by_three, two_by_two}
-use Rattle.draft.specs.Opening.{base_clauses}
+use Rattle.boards.specs.Base.{base_clauses}
 
 -- what an example says
 pub data Example : Type 0 where

@@ -1,8 +1,7 @@
 -- Lists that are joined from parts.
-use Rattle.std.proofs.Common.{◌≡◌, ℕ, ◌+◌, ◌-◌, ◌<◌, ◌≤◌, List, [], ◌∷◌, ◌++◌, length, get_or, take, drop, sym, refl, ap, ◌∙◌, append_assoc, arith, length-drop}
-use Rattle.std.specs.List.{range_with_len, flat_map}
+use Rattle.std.proofs.Common.{◌≡◌, ℕ, ◌-◌, ◌≤◌, List, [], ◌∷◌, ◌++◌, length, take, drop, sym, refl, ap, ◌∙◌, append_assoc, arith, length-drop}
+use Rattle.std.specs.List.{flat_map}
 use Rattle.std.proofs.lemmas.List.{length-append, take_all, take-append-drop}
-use Rattle.std.proofs.lemmas.List.FromFn.{get_or-range_with_len}
 
 pub joined_append : {A X : Type 0} (f : A → List X) (xs ys : List A) → flat_map f (xs ++ ys) ≡ flat_map f xs ++ flat_map f ys
 joined_append f [] ys = refl
@@ -13,10 +12,6 @@ joined_split f xs m = ap (flat_map f) (sym (take-append-drop m xs)) ∙ joined_a
 
 pub length_joined_take : {A X : Type 0} (f : A → List X) (xs : List A) (m : ℕ) → length (flat_map f (take m xs)) ≤ length (flat_map f xs)
 length_joined_take f xs m = omega (arith, ap length (joined_split f xs m), length-append (flat_map f (take m xs)) (flat_map f (drop m xs)))
-
--- the element that a loop over numbers is at
-pub at_counting : (a n i x : ℕ) → i < n → a + i ≡ x → get_or (range_with_len a n) i x ≡ x
-at_counting a n i x l e = get_or-range_with_len a n i x l ∙ e
 
 -- the rest of a list, as a range without an end has it
 pub rest_is : {X : Type 0} (xs : List X) (k : ℕ) → take (length xs - k) (drop k xs) ≡ drop k xs

@@ -8,13 +8,14 @@ ghost use Rattle.meanings.proofs.Sets.{four_usable};
 use boards::Board;
 use givens::Givens;
 use kinds::{Kind, Kinds};
-use parts::KindFault;
+use parts::{KindFault, Part};
 use places::Place;
 use sum_kinds::{Arrow, Cage};
 use thermometer::Thermometer;
 use totallers::Totaller;
 
-// Givens are kind 1, cages 2, thermometers 3 and arrows 4.
+// Givens are kind 1, cages 2, thermometers 3 and arrows 4. `With` cannot build the set, since a set's law asks for all
+// four at once. One `match` for the three questions would be generic over the question as well, with a promise for each.
 pub struct FourKinds;
 
 impl Kinds for FourKinds {
@@ -22,12 +23,12 @@ impl Kinds for FourKinds {
 
     ghost usable = { four_usable };
 
-    fn test(number: u8, board: &Board, total: u32, body: &[u8]) -> Option<Result<(), KindFault>> {
+    fn test(number: u8, board: &Board, part: &Part<'_>) -> Option<Result<(), KindFault>> {
         match number {
-            1 => Some(Givens::test(board, total, body)),
-            2 => Some(Cage::test(board, total, body)),
-            3 => Some(Thermometer::test(board, total, body)),
-            4 => Some(Arrow::test(board, total, body)),
+            Givens::NUMBER => Some(Givens::test(board, part)),
+            Cage::NUMBER => Some(Cage::test(board, part)),
+            Thermometer::NUMBER => Some(Thermometer::test(board, part)),
+            Arrow::NUMBER => Some(Arrow::test(board, part)),
             _ => None,
         }
     }
@@ -35,16 +36,15 @@ impl Kinds for FourKinds {
     fn write<T: Totaller, P: Place>(
         number: u8,
         board: &Board,
-        total: u32,
-        body: &[u8],
+        part: &Part<'_>,
         first: u32,
         place: &mut P,
     ) -> Option<Result<u32, KindFault>> {
         match number {
-            1 => Some(Givens::write::<T, P>(board, total, body, first, place)),
-            2 => Some(Cage::write::<T, P>(board, total, body, first, place)),
-            3 => Some(Thermometer::write::<T, P>(board, total, body, first, place)),
-            4 => Some(Arrow::write::<T, P>(board, total, body, first, place)),
+            Givens::NUMBER => Some(Givens::write::<T, P>(board, part, first, place)),
+            Cage::NUMBER => Some(Cage::write::<T, P>(board, part, first, place)),
+            Thermometer::NUMBER => Some(Thermometer::write::<T, P>(board, part, first, place)),
+            Arrow::NUMBER => Some(Arrow::write::<T, P>(board, part, first, place)),
             _ => None,
         }
     }
@@ -52,15 +52,14 @@ impl Kinds for FourKinds {
     fn judge(
         number: u8,
         board: &Board,
-        total: u32,
-        body: &[u8],
+        part: &Part<'_>,
         grid: &[u8],
     ) -> Option<Result<bool, KindFault>> {
         match number {
-            1 => Some(Givens::judge(board, total, body, grid)),
-            2 => Some(Cage::judge(board, total, body, grid)),
-            3 => Some(Thermometer::judge(board, total, body, grid)),
-            4 => Some(Arrow::judge(board, total, body, grid)),
+            Givens::NUMBER => Some(Givens::judge(board, part, grid)),
+            Cage::NUMBER => Some(Cage::judge(board, part, grid)),
+            Thermometer::NUMBER => Some(Thermometer::judge(board, part, grid)),
+            Arrow::NUMBER => Some(Arrow::judge(board, part, grid)),
             _ => None,
         }
     }

@@ -1,10 +1,12 @@
 -- A line of givens, character by character.
-use Rattle.std.proofs.Common.{◌≡◌, ℕ, ◌+◌, ◌-◌, ◌*◌, ◌<◌, ◌≤◌, Bool, true, false, ◌&&◌, ◌||◌, eqb, List, [], ◌∷◌, ◌++◌, map, length, get_or, drop, ℤ, pos, sym, ap, ◌∙◌, inl, inr, arith}
-use Rattle.std.proofs.lemmas.List.{drop_all, drop_more, map-append}
+use Rattle.std.proofs.Common.{◌≡◌, ℕ, ◌+◌, ◌-◌, ◌*◌, ◌≤◌, Bool, true, false, ◌&&◌, ◌||◌, eqb, List, [], ◌∷◌, ◌++◌, map, length, get_or, drop, ℤ, pos, sym, refl, ap, ◌∙◌, inl, inr, arith}
+use Rattle.std.specs.List.{flat_map, list_all, zip}
+use Rattle.std.proofs.lemmas.List.{drop_more, map-append}
 use Rattle.std.proofs.lemmas.Bool.{cases_Bool, cond-true, cond-false}
 use Rattle.std.proofs.lemmas.Bool.Decides.{nat_tests}
 use Rattle.formulas.specs.Formula.{is}
 use Rattle.formulas.specs.Numbered.{signed}
+use Rattle.places.proofs.Loops.{below, counted_is}
 use Rattle.boards.specs.declared.board.Board.{Board}
 use Rattle.boards.specs.Board.{side}
 use Rattle.boards.specs.Atoms.{at, number}
@@ -18,18 +20,14 @@ stated_first c ch chs =
       | inr e ↦ rw e
     ]
 
--- what is left from the character at i on
-abbrev pub stated_from : Board → ℕ → List ℕ → ℕ → List (List ℤ)
-stated_from b f body i = clauses_from b f (stated i (drop i body))
+-- what the character at i says
+abbrev pub character_turn : Board → ℕ → List ℕ → ℕ → List (List ℤ)
+character_turn b f body i = clauses_from b f (stated i (get_or body i 0 ∷ []))
 
-module _ (b : Board) (f : ℕ) (body : List ℕ) (i : ℕ) where
-  pub stated_all : length body ≤ i → stated_from b f body i ≡ []
-  stated_all l = ap (λ r. clauses_from b f (stated i r)) (drop_all i body l)
-
-  pub stated_more : i < length body → stated_from b f body i ≡ clauses_from b f (stated i (get_or body i 0 ∷ [])) ++ stated_from b f body (i + 1)
-  stated_more l =
-      ap (λ r. clauses_from b f (stated i r)) (drop_more body i 0 l) ∙ ap (clauses_from b f) (stated_first i (get_or body i 0) (drop (i + 1) body)) ∙
-      map-append (map (signed (number b (f - 1)))) (stated i (get_or body i 0 ∷ [])) (stated (i + 1) (drop (i + 1) body))
+pub stated_is : (b : Board) (f : ℕ) (body : List ℕ) → clauses_from b f (stated 0 body) ≡ flat_map (character_turn b f body) (below (length body) 0)
+stated_is b f body =
+    counted_is (λ i r. clauses_from b f (stated i r)) (λ i ch. clauses_from b f (stated i (ch ∷ []))) (λ i. refl)
+    (λ i ch chs. ap (clauses_from b f) (stated_first i ch chs) ∙ map-append (map (signed (number b (f - 1)))) (stated i (ch ∷ [])) (stated (i + 1) chs)) body 0
 
 -- one character
 module _ (b : Board) (f c ch : ℕ) where
@@ -42,17 +40,15 @@ module _ (b : Board) (f c ch : ℕ) where
 pub character_low : (b : Board) (ch : ℕ) → fitting b ch ≡ true → blank ch ≡ false → 49 ≤ ch
 character_low b ch h e = grind (arith, nat_tests)
 
--- the judgement, character by character
-module _ (g body : List ℕ) (i : ℕ) (so_far : shows g 0 body ≡ shows g i (drop i body)) where
-  pub shows_all : length body ≤ i → true ≡ shows g 0 body
-  shows_all l = sym (so_far ∙ ap (shows g i) (drop_all i body l))
+-- whether a digit is that of a character, if it is one
+abbrev pub agree : ℕ × ℕ → Bool
+agree p = blank p.0 || eqb p.1 (digit_of p.0)
 
-  module _ (l : i < length body) (b : Bool) (is_so : b ≡ (blank (get_or body i 0) || eqb (get_or g i 0) (digit_of (get_or body i 0)))) where
-    next : shows g 0 body ≡ (b && shows g (i + 1) (drop (i + 1) body))
-    next = so_far ∙ ap (shows g i) (drop_more body i 0 l) ∙ ap (λ x. x && shows g (i + 1) (drop (i + 1) body)) (sym is_so)
+-- the judgement, as one test of each character and its digit
+shows_from : (g : List ℕ) (c : ℕ) (chs : List ℕ) → c + length chs ≤ length g → shows g c chs ≡ list_all agree (zip chs (drop c g))
+shows_from g c [] l = refl
+shows_from g c (ch ∷ chs) l =
+    ap (λ x. agree (ch, get_or g c 0) && x) (shows_from g (c + 1) chs (omega arith)) ∙ sym (ap (λ r. list_all agree (zip (ch ∷ chs) r)) (drop_more g c 0 (omega arith)))
 
-    pub shows_more : b ≡ true → shows g 0 body ≡ shows g (i + 1) (drop (i + 1) body)
-    shows_more h = next ∙ ap (λ x. x && shows g (i + 1) (drop (i + 1) body)) h
-
-    pub shows_exit : b ≡ false → false ≡ shows g 0 body
-    shows_exit h = sym (next ∙ ap (λ x. x && shows g (i + 1) (drop (i + 1) body)) h)
+pub shows_is : (g body : List ℕ) → length body ≡ length g → shows g 0 body ≡ list_all agree (zip body g)
+shows_is g body e = shows_from g 0 body (omega arith)

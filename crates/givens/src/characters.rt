@@ -1,7 +1,7 @@
 // The characters of a line of givens.
-ghost use Rattle.std.specs.Prelude.{◌≡◌, ◌≤◌, true, not, ◌||◌, [], ◌∷◌, length, ◌==◌, slice_index};
+ghost use Rattle.std.specs.Prelude.{ℕ, ◌≡◌, ◌≤◌, true, not, ◌||◌, [], ◌∷◌, length, ◌==◌, slice_index};
 ghost use Rattle.std.specs.Result.{result_err};
-ghost use Rattle.std.specs.List.{AllByRecursion as Each};
+ghost use Rattle.std.specs.List.{list_all, zip, AllByRecursion as Each};
 ghost use Rattle.places.specs.Written.{Writes};
 ghost use Rattle.parts.specs.declared.fault.KindFault.TheVariants.{Character};
 ghost use Rattle.parts.specs.Tests.{index_fault};
@@ -16,38 +16,31 @@ use places::{Place, PlaceFault};
 pub(crate) fn check_characters(board: &Board, body: &[u8]) -> Result<(), KindFault>
     ensures { result_err result ≡ index_fault (λ i. not (meaning.fitting board.now (slice_index body.now i))) Character body.now }
 {
-    for index in 0..body.len() {
-        if !fits(board, body[index]) {
-            return Err(KindFault::Character { index });
-        }
-    }
-    Ok(())
+    body.iter()
+        .position(|character| !fits(board, *character))
+        .map_or(Ok(()), |index| Err(KindFault::Character { index }))
 }
 
 fn fits(board: &Board, character: u8) -> bool
     ensures { result ≡ meaning.fitting board.now character }
 {
-    is_blank(character) || 49 <= character && character as usize <= 48 + board.side()
+    is_blank(character) || b'1' <= character && character as usize <= b'0' as usize + board.side()
 }
 
 // A full stop, or the character 0.
 fn is_blank(character: u8) -> bool
     ensures { result ≡ meaning.blank character }
 {
-    character == b'.' || character == b'0'
+    matches!(character, b'.' | b'0')
 }
 
 // Whether the grid has the digits that the characters are.
 pub(crate) fn shows(body: &[u8], grid: &[u8]) -> bool
-    requires same { length body.now ≡ length grid.now }
-    ensures { result ≡ meaning.shows grid.now 0 body.now }
+    ensures { result ≡ list_all (λ p. meaning.blank p.0 || p.1 == meaning.digit_of p.0) (zip body.now grid.now) }
 {
-    for index in 0..body.len() {
-        if !agrees(body[index], grid[index]) {
-            return false;
-        }
-    }
-    true
+    body.iter()
+        .zip(grid)
+        .all(|(character, digit)| agrees(*character, *digit))
 }
 
 // Whether the cell has the digit that the character is, if it is one.
@@ -57,19 +50,18 @@ fn agrees(character: u8, digit: u8) -> bool
     is_blank(character) || digit == character.saturating_sub(b'0')
 }
 
-// A clause for each digit. No fresh number is used.
+// A clause for each digit. There are no fresh variables, so it does not matter where these begin.
 pub(crate) fn write_digits<P: Place>(
     board: &Board,
     body: &[u8],
-    first: u32,
     place: &mut P,
 ) -> Result<(), PlaceFault>
     requires few { length body.now ≤ 256 }
     requires characters { Each (λ ch. meaning.fitting board.now ch ≡ true) body.now }
-    ensures { Writes P.Place (clauses_from board.now first (meaning.stated 0 body.now)) place.old place.new (result_err result) }
+    ensures { (f : ℕ) → Writes P.Place (clauses_from board.now f (meaning.stated 0 body.now)) place.old place.new (result_err result) }
 {
-    for index in 0..body.len() {
-        write_digit(board, index as u8, body[index], first, place)?;
+    for (index, character) in body.iter().enumerate() {
+        write_digit(board, index as u8, *character, place)?;
     }
     Ok(())
 }
@@ -79,11 +71,10 @@ fn write_digit<P: Place>(
     board: &Board,
     cell: u8,
     character: u8,
-    first: u32,
     place: &mut P,
 ) -> Result<(), PlaceFault>
     requires { meaning.fitting board.now character ≡ true }
-    ensures { Writes P.Place (clauses_from board.now first (meaning.stated cell (character ∷ []))) place.old place.new (result_err result) }
+    ensures { (f : ℕ) → Writes P.Place (clauses_from board.now f (meaning.stated cell (character ∷ []))) place.old place.new (result_err result) }
 {
     if is_blank(character) {
         return Ok(());

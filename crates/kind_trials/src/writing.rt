@@ -1,4 +1,4 @@
-use crate::set::{Five, small_board, told};
+use crate::set::{Five, part, small_board, told};
 use adder_network::AdderNetwork;
 use boards::Board;
 use kinds::Kinds;
@@ -11,7 +11,7 @@ use totallers::{Totaller, TotallerFault};
 
 // The cage of the cells 0 and 1 with total 3 on side 4.
 fn write_cage<T: Totaller, P: Place>(first: u32, place: &mut P) -> Option<Result<u32, KindFault>> {
-    Five::write::<T, P>(2, &small_board(), 3, &[0, 1], first, place)
+    Five::write::<T, P>(2, &small_board(), &part(3, &[0, 1]), first, place)
 }
 
 #[test]
@@ -23,7 +23,7 @@ fn parts_with_a_sum_are_written(rt: HostRuntime) {
         Some(Ok(16))
     );
     assert_eq!(rt; place.count(), 100);
-    let text = place.used_bytes();
+    let text = place.used();
     assert!(rt; text.starts_with(b"-1 -5 0\n-2 -6 0\n-3 -7 0\n-4 -8 0\n1 3 5 -65 0\n"));
     assert!(rt; text.ends_with(b"67 0\n73 0\n-77 0\n-79 0\n-80 0\n"));
     place.cut_back(0);
@@ -34,7 +34,13 @@ fn parts_with_a_sum_are_written(rt: HostRuntime) {
     assert_eq!(rt; place.count(), 117);
     place.cut_back(0);
     assert_eq!(rt;
-        Five::write::<AdderNetwork, TextPlace<'_>>(4, &small_board(), 0, &[0, 1], 65, &mut place),
+        Five::write::<AdderNetwork, TextPlace<'_>>(
+            4,
+            &small_board(),
+            &part(0, &[0, 1]),
+            65,
+            &mut place
+        ),
         Some(Ok(16))
     );
     assert_eq!(rt; place.count(), 89);
@@ -49,29 +55,28 @@ fn parts_without_a_sum_are_written(rt: HostRuntime) {
         Five::write::<AdderNetwork, TextPlace<'_>>(
             1,
             &board,
-            0,
-            b"1.............04",
+            &part(0, b"1.............04"),
             65,
             &mut place,
         ),
         Some(Ok(0))
     );
-    assert!(rt; place.used_bytes() == b"1 0\n64 0\n".as_slice());
+    assert!(rt; place.used() == b"1 0\n64 0\n".as_slice());
     place.cut_back(0);
     assert_eq!(rt;
-        Five::write::<AdderNetwork, TextPlace<'_>>(3, &board, 0, &[0, 1], 65, &mut place),
+        Five::write::<AdderNetwork, TextPlace<'_>>(3, &board, &part(0, &[0, 1]), 65, &mut place),
         Some(Ok(0))
     );
     assert!(rt;
-        place.used_bytes()
+        place.used()
             == b"-1 -5 0\n-2 -5 0\n-2 -6 0\n-3 -5 0\n-3 -6 0\n-3 -7 0\n-4 -5 0\n-4 -6 0\n-4 -7 0\n-4 -8 0\n".as_slice()
     );
     place.cut_back(0);
     assert_eq!(rt;
-        Five::write::<AdderNetwork, TextPlace<'_>>(9, &board, 0, &[0, 5], 65, &mut place),
+        Five::write::<AdderNetwork, TextPlace<'_>>(9, &board, &part(0, &[0, 5]), 65, &mut place),
         Some(Ok(0))
     );
-    assert!(rt; place.used_bytes() == b"-1 21 0\n-2 22 0\n-3 23 0\n-4 24 0\n".as_slice());
+    assert!(rt; place.used() == b"-1 21 0\n-2 22 0\n-3 23 0\n-4 24 0\n".as_slice());
 }
 
 #[test]
@@ -94,14 +99,13 @@ fn a_refused_part_leaves_the_place(rt: HostRuntime) -> Result<(), Fail> {
         told(Five::write::<RunningTotals, TextPlace<'_>>(
             2,
             &board,
-            41,
-            &[0, 1, 2, 3, 4, 5, 6, 7],
+            &part(41, &[0, 1, 2, 3, 4, 5, 6, 7]),
             730,
             &mut place,
         )),
         Some((23, 72))
     );
-    assert!(rt; place.used_bytes() == b"7 0\n".as_slice());
+    assert!(rt; place.used() == b"7 0\n".as_slice());
     Ok(())
 }
 

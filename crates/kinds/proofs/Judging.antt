@@ -1,6 +1,7 @@
 -- A grid with which nothing is wrong.
-use Rattle.std.proofs.Common.{◌≡◌, ℕ, true, false, not, eqb, List, length, get_or, None, arith}
-use Rattle.std.proofs.ByRecursion.{All-from_get_or}
+use Rattle.std.proofs.Common.{◌≡◌, ℕ, ◌<◌, true, false, not, eqb, List, length, get_or, None, arith}
+use Rattle.std.specs.List.{AllByRecursion as Each}
+use Rattle.std.proofs.ByRecursion.{All-from_get_or, All-weaker}
 use Rattle.std.proofs.lemmas.Bool.{eqb-true}
 use Rattle.std.proofs.lemmas.Bool.Decides.{nat_tests}
 use Rattle.boards.specs.declared.board.Board.{Board}
@@ -23,3 +24,7 @@ grid_good b g h =
       size = eqb-true (length g) (cells b) parts.0;
       digits = All-from_get_or (Digit b) g 0 (λ i l. digit_true b (get_or g i 0) (none_bad (λ i. not (digit b (get_or g i 0))) GridDigit (length g) parts.1 i l));
     }
+
+-- cells of the board are indices of the grid
+pub cells_in : (b : Board) (g cs : List ℕ) → grid_fault b g ≡ None → Each (λ c. c < cells b) cs → Each (λ c. c < length g) cs
+cells_in b g cs h on = let n = (grid_good b g h).size in All-weaker (λ c. c < cells b) (λ c. c < length g) (λ c l. omega arith) cs on

@@ -6,7 +6,7 @@ ghost use Rattle.meanings.proofs.Sets.{usable_with};
 
 use crate::kind::Kind;
 use boards::Board;
-use parts::KindFault;
+use parts::{KindFault, Part};
 use places::Place;
 use totallers::Totaller;
 
@@ -14,27 +14,25 @@ use totallers::Totaller;
 pub trait Kinds {
     ghost meanings: { List Meaning };
 
-    fn test(number: u8, board: &Board, total: u32, body: &[u8]) -> Option<Result<(), KindFault>>
-        ensures { SetTested (find number meanings) board.now total body.now result };
+    fn test(number: u8, board: &Board, part: &Part<'_>) -> Option<Result<(), KindFault>>
+        ensures { SetTested (find number meanings) board.now part.now.total part.now.body.now result };
 
     fn write<T: Totaller, P: Place>(
         number: u8,
         board: &Board,
-        total: u32,
-        body: &[u8],
+        part: &Part<'_>,
         first: u32,
         place: &mut P,
     ) -> Option<Result<u32, KindFault>>
-        ensures { SetWritten (find number meanings) T.Totaller.meaning P.Place board.now total body.now first place.old place.new result };
+        ensures { SetWritten (find number meanings) T.Totaller.meaning P.Place board.now part.now.total part.now.body.now first place.old place.new result };
 
     fn judge(
         number: u8,
         board: &Board,
-        total: u32,
-        body: &[u8],
+        part: &Part<'_>,
         grid: &[u8],
     ) -> Option<Result<bool, KindFault>>
-        ensures { SetJudged (find number meanings) board.now total body.now grid.now result };
+        ensures { SetJudged (find number meanings) board.now part.now.total part.now.body.now grid.now result };
 
     ghost usable: { Usable meanings };
 }
@@ -44,7 +42,7 @@ pub trait NewTo<S: Kinds>: Kind {
     ghost absent: { Absent Self.Kind.meaning.number S.Kinds.meanings };
 }
 
-// A set with one kind more.
+// A set with one kind more. Its three functions ask the same `if`: one that took both sides as closures is no plainer.
 pub struct With<K, S>(K, S);
 
 impl<S: Kinds, K: NewTo<S>> Kinds for With<K, S> {
@@ -52,40 +50,38 @@ impl<S: Kinds, K: NewTo<S>> Kinds for With<K, S> {
 
     ghost usable = { usable_with K.Kind.meaning S.Kinds.meanings K.Kind.lawful K.NewTo.absent S.Kinds.usable };
 
-    fn test(number: u8, board: &Board, total: u32, body: &[u8]) -> Option<Result<(), KindFault>> {
-        if number == K::code() {
-            Some(K::test(board, total, body))
+    fn test(number: u8, board: &Board, part: &Part<'_>) -> Option<Result<(), KindFault>> {
+        if number == K::NUMBER {
+            Some(K::test(board, part))
         } else {
-            S::test(number, board, total, body)
+            S::test(number, board, part)
         }
     }
 
     fn write<T: Totaller, P: Place>(
         number: u8,
         board: &Board,
-        total: u32,
-        body: &[u8],
+        part: &Part<'_>,
         first: u32,
         place: &mut P,
     ) -> Option<Result<u32, KindFault>> {
-        if number == K::code() {
-            Some(K::write::<T, P>(board, total, body, first, place))
+        if number == K::NUMBER {
+            Some(K::write::<T, P>(board, part, first, place))
         } else {
-            S::write::<T, P>(number, board, total, body, first, place)
+            S::write::<T, P>(number, board, part, first, place)
         }
     }
 
     fn judge(
         number: u8,
         board: &Board,
-        total: u32,
-        body: &[u8],
+        part: &Part<'_>,
         grid: &[u8],
     ) -> Option<Result<bool, KindFault>> {
-        if number == K::code() {
-            Some(K::judge(board, total, body, grid))
+        if number == K::NUMBER {
+            Some(K::judge(board, part, grid))
         } else {
-            S::judge(number, board, total, body, grid)
+            S::judge(number, board, part, grid)
         }
     }
 }

@@ -2,118 +2,53 @@
 #![tactic(auto)]
 
 use adder_network::AdderNetwork;
+use clause_text::WriteFault;
 use givens::Givens;
-use part_text::{KindName, Part, PartTextFault, WriteFault, read_part, write_part};
-use places::Refusal;
+use part_text::{KindName, Part, PartFault, PartTextFault, read_part, write_part};
 use running_totals::RunningTotals;
-use std::alloc::{AllocError, Global};
-use std::io::{Read, Write};
+use shell::{Fault, ended, read_input, write_output};
+use std::alloc::Global;
 use std::process::ExitCode;
 use sum_kinds::{Arrow, Cage};
 use sum_text::Method;
 use thermometer::Thermometer;
 use totallers::Totaller;
 
-// The program ends with status 1; what is wrong has been said.
-#[derive(Drop)]
-struct Stopped;
+// Why no part was written.
+type NotWritten<'a> = Fault<PartTextFault<'a>, WriteFault<PartFault>>;
 
 // Reads a part from standard input, and writes its clauses to standard output.
 fn main(rt: HostRuntime) -> ExitCode {
-    match work(&rt) {
-        Ok(()) => ExitCode::SUCCESS,
-        Err(Stopped) => ExitCode::FAILURE,
-    }
-}
-
-fn work(rt: &HostRuntime) -> Result<(), Stopped> {
     let mut text = String::new(rt.alloc());
-    if let Err(error) = rt.stdin().read_to_string(&mut text) {
-        let _ = eprintln!(rt; "part: standard input: {error}");
-        return Err(Stopped);
-    }
-    let Ok(words) = words_of(rt.alloc(), text.as_str()) else {
-        return no_memory(rt);
+    ended(&rt, "part", work(&rt, &mut text))
+}
+
+fn work<'a>(rt: &HostRuntime, text: &'a mut String) -> Result<ExitCode, NotWritten<'a>> {
+    read_input(rt, text)?;
+    let words: Vec<&'a str> = text.as_str().split_whitespace().collect(rt.alloc())?;
+    let part = read_part(rt.alloc(), words.as_slice()).map_err(Fault::Text)?;
+    // A `match`: `map_err` takes no function whose result names a lifetime, here the text's, that its argument does not.
+    let clauses = match encode(rt.alloc(), &part) {
+        Ok(clauses) => clauses,
+        Err(fault) => return Err(Fault::Write(fault)),
     };
-    match read_part(rt.alloc(), words.as_slice()) {
-        Ok(part) => encode(rt, &part),
-        Err(fault) => explain(rt, fault),
-    }
+    write_output(rt, clauses.as_slice())?;
+    Ok(ExitCode::SUCCESS)
 }
 
-fn words_of<'a>(heap: Global, text: &'a str) -> Result<Vec<&'a str>, AllocError> {
-    text.split_whitespace().collect(heap)
-}
-
-// Writes the clauses of a board with the part.
-fn encode(rt: &HostRuntime, part: &Part) -> Result<(), Stopped> {
+// The clauses of a board with the part, by the totaller and the kind that it names.
+fn encode(heap: Global, part: &Part) -> Result<Vec<u8>, WriteFault<PartFault>> {
     match part.method {
-        Method::Running => encode_by::<RunningTotals>(rt, part),
-        Method::Adder => encode_by::<AdderNetwork>(rt, part),
+        Method::Running => encode_by::<RunningTotals>(heap, part),
+        Method::Adder => encode_by::<AdderNetwork>(heap, part),
     }
 }
 
-fn encode_by<T: Totaller>(rt: &HostRuntime, part: &Part) -> Result<(), Stopped> {
-    let written = match part.kind {
-        KindName::Givens => write_part::<T, Givens>(rt.alloc(), part),
-        KindName::Thermometer => write_part::<T, Thermometer>(rt.alloc(), part),
-        KindName::Cage => write_part::<T, Cage>(rt.alloc(), part),
-        KindName::Arrow => write_part::<T, Arrow>(rt.alloc(), part),
-    };
-    match written {
-        Ok(clauses) => write_out(rt, clauses.as_slice()),
-        Err(WriteFault::Base(fault)) => refuse(rt, fault.refusal()),
-        Err(WriteFault::Kind(fault)) => refuse(rt, fault.refusal()),
-        Err(WriteFault::Memory) => no_memory(rt),
+fn encode_by<T: Totaller>(heap: Global, part: &Part) -> Result<Vec<u8>, WriteFault<PartFault>> {
+    match part.kind {
+        KindName::Givens => write_part::<T, Givens>(heap, part),
+        KindName::Thermometer => write_part::<T, Thermometer>(heap, part),
+        KindName::Cage => write_part::<T, Cage>(heap, part),
+        KindName::Arrow => write_part::<T, Arrow>(heap, part),
     }
-}
-
-fn write_out(rt: &HostRuntime, clauses: &[u8]) -> Result<(), Stopped> {
-    match rt.stdout().write_all(clauses) {
-        Ok(()) => Ok(()),
-        Err(error) => {
-            let _ = eprintln!(rt; "part: standard output: {error}");
-            Err(Stopped)
-        }
-    }
-}
-
-// Says why the text is no part.
-fn explain(rt: &HostRuntime, fault: PartTextFault<'_>) -> Result<(), Stopped> {
-    let (word, what) = match fault {
-        PartTextFault::TooFewWords => return stop(rt, "a part is `TOTALLER SIDE KIND TOTAL BODY`"),
-        PartTextFault::Memory => return no_memory(rt),
-        PartTextFault::Method(word) => (word, "names no totaller: they are `running` and `adder`"),
-        PartTextFault::Side(word) => (word, "is no side: they are 4 and 9"),
-        PartTextFault::Kind(word) => (
-            word,
-            "names no kind: they are `givens`, `cage`, `thermometer` and `arrow`",
-        ),
-        PartTextFault::Total(word) => (word, "is no number from 0 to 4294967295"),
-        PartTextFault::Cell(word) => (word, "is no cell: it is a number from 0 to 255"),
-        PartTextFault::Behind(word) => (word, "stands behind the line of givens"),
-    };
-    let _ = eprintln!(rt; "part: {word:?} {what}");
-    Err(Stopped)
-}
-
-// Says which refusal the part met.
-fn refuse(rt: &HostRuntime, refusal: Refusal) -> Result<(), Stopped> {
-    let Refusal {
-        number,
-        layer,
-        position,
-    } = refusal;
-    let _ = eprintln!(rt; "part: refused: number {number}, layer {layer:?}, position {position}");
-    Err(Stopped)
-}
-
-fn no_memory(rt: &HostRuntime) -> Result<(), Stopped> {
-    stop(rt, "not enough memory")
-}
-
-// Says what is wrong.
-fn stop(rt: &HostRuntime, what: &str) -> Result<(), Stopped> {
-    let _ = eprintln!(rt; "part: {what}");
-    Err(Stopped)
 }

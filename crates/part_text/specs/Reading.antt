@@ -1,22 +1,11 @@
 -- What the words of a part say.
-use Rattle.std.specs.Prelude.{◌≡◌, ℕ, ◌<◌, cond, List, [], ◌∷◌, length, Some, None, vec_items, codes, Option, slice_index, slice_index_or}
-use Rattle.std.specs.Str.{bytes_eq}
-use Rattle.sum_text.specs.Reading.{Number, method_of}
+use Rattle.std.specs.Prelude.{◌≡◌, ℕ, ◌<◌, List, [], ◌∷◌, length, Some, vec_items, slice_index, slice_index_or}
+use Rattle.sum_text.specs.Method.{method_of}
+use Rattle.sum_text.specs.Reading.{Number}
 use Rattle.part_text.specs.declared.part.KindName.{KindName}
 use Rattle.part_text.specs.declared.part.KindName.TheVariants.{Givens, Cage, Thermometer, Arrow}
 use Rattle.part_text.specs.declared.part.Part.{Part}
-use Rattle.part_text.specs.declared.part.Side.{Side}
-use Rattle.part_text.specs.declared.part.Side.TheVariants.{Four, Nine}
-
--- the kind that a word names
-abbrev pub kind_of : List ℕ → Option KindName
-kind_of w =
-    cond (bytes_eq w (codes "givens")) (Some Givens) (cond (bytes_eq w (codes "cage")) (Some Cage)
-    (cond (bytes_eq w (codes "thermometer")) (Some Thermometer) (cond (bytes_eq w (codes "arrow")) (Some Arrow) None)))
-
--- the side that a word is
-abbrev pub side_of : List ℕ → Option Side
-side_of w = cond (bytes_eq w (codes "4")) (Some Four) (cond (bytes_eq w (codes "9")) (Some Nine) None)
+use Rattle.part_text.specs.Names.{kind_of, side_of}
 
 -- each word is a cell, in order
 pub record Cells (words : List (List ℕ)) (body : List ℕ) : Type 0 where

@@ -6,22 +6,20 @@ use Rattle.spelling.specs.Text.{text_charge}
 use Rattle.places.specs.declared.fault.PlaceFault.{PlaceFault}
 use Rattle.places.specs.declared.fault.PlaceFault.TheVariants.{NoSpace}
 use Rattle.places.specs.Written.{fitting}
+use Rattle.clause_text.specs.declared.fault.WriteFault.{WriteFault}
+use Rattle.clause_text.specs.declared.fault.WriteFault.TheVariants as writing
+use Rattle.clause_text.specs.Writing.{cnf}
 use Rattle.totals.specs.Totaller.{Totaller}
 use Rattle.boards.specs.declared.board.Board.{Board}
 use Rattle.boards.specs.Atoms.{cell_variables}
-use Rattle.boards.specs.Base.{base, clauses_of}
+use Rattle.boards.specs.Base.{base_clauses}
 use Rattle.parts.specs.declared.fault.KindFault.{KindFault}
 use Rattle.meanings.specs.Kind.{Kind}
 use Rattle.kinds.specs.Answers.{carried, part_clauses, write_fault}
-use Rattle.sum_text.specs.Writing.{cnf}
-use Rattle.part_text.specs.declared.fault.WriteFault.{WriteFault}
-use Rattle.part_text.specs.declared.fault.WriteFault.TheVariants as writing
+use Rattle.part_text.specs.declared.fault.PartFault.{PartFault}
+use Rattle.part_text.specs.declared.fault.PartFault.TheVariants as part
 use Rattle.part_text.specs.declared.part.Part.{Part}
 use Rattle.part_text.specs.Board.{board}
-
--- the clauses of the empty board
-abbrev pub base_clauses : Board → List (List ℤ)
-base_clauses b = clauses_of b (base b)
 
 -- the first fresh number is the first behind those of the cells
 abbrev pub first_fresh : Board → ℕ
@@ -52,13 +50,13 @@ part_fault 𝓚 𝓣 b total body room =
     (room_fault 𝓚 𝓣 b total body (own_clauses 𝓚 𝓣 b total body) (room - sum_by text_charge (base_clauses b)))
 
 -- the board and the part are written, or refused, in so much room; or memory is wanting
-abbrev pub WrittenOn : Kind → Totaller → Board → ℕ → List ℕ → ℕ → Result (Vec ℕ Global) WriteFault → Type 0
+abbrev pub WrittenOn : Kind → Totaller → Board → ℕ → List ℕ → ℕ → Result (Vec ℕ Global) (WriteFault PartFault) → Type 0
 WrittenOn 𝓚 𝓣 b total body room (Ok text) =
     (base_fault b room ≡ None) × (part_fault 𝓚 𝓣 b total body room ≡ None) ×
     (vec_items text ≡ cnf (last_variable 𝓚 𝓣 b total body) (base_clauses b ++ own_clauses 𝓚 𝓣 b total body))
-WrittenOn 𝓚 𝓣 b total body room (Err (writing.Base f)) = base_fault b room ≡ Some f
-WrittenOn 𝓚 𝓣 b total body room (Err (writing.Kind f)) = (base_fault b room ≡ None) × (part_fault 𝓚 𝓣 b total body room ≡ Some f)
+WrittenOn 𝓚 𝓣 b total body room (Err (writing.Refused (part.Base f))) = base_fault b room ≡ Some f
+WrittenOn 𝓚 𝓣 b total body room (Err (writing.Refused (part.Kind f))) = (base_fault b room ≡ None) × (part_fault 𝓚 𝓣 b total body room ≡ Some f)
 WrittenOn 𝓚 𝓣 b total body room (Err writing.Memory) = Unit {0}
 
-abbrev pub Written : Kind → Totaller → Part → ℕ → Result (Vec ℕ Global) WriteFault → Type 0
+abbrev pub Written : Kind → Totaller → Part → ℕ → Result (Vec ℕ Global) (WriteFault PartFault) → Type 0
 Written 𝓚 𝓣 p room r = WrittenOn 𝓚 𝓣 (board p.side) p.total (vec_items p.body) room r

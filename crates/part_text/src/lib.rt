@@ -6,7 +6,7 @@ mod part;
 mod read;
 mod writing;
 
-pub use fault::{PartTextFault, WriteFault};
+pub use fault::{PartFault, PartTextFault};
 pub use part::{KindName, Part, Side};
 pub use read::read_part;
 pub use writing::write_part;

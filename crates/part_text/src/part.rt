@@ -1,8 +1,11 @@
 ghost use Rattle.std.specs.Prelude.{◌≡◌};
+ghost use Rattle.std.specs.Result.{result_ok};
 ghost use Rattle.part_text.specs.Board.{board};
+ghost use Rattle.part_text.specs.Names.{kind_of, side_of};
 
 use boards::Board;
-use sum_text::Method;
+use std::str::FromStr;
+use sum_text::{Method, UnknownName};
 
 // The side of a board.
 #[derive(Clone, Copy, PartialEq, Eq, Debug)]
@@ -11,15 +14,29 @@ pub enum Side {
     Nine,
 }
 
-impl Side {
-    pub(crate) fn board(self) -> Board
-        ensures { result ≡ board self }
-    {
-        let side = match self {
+impl From<Side> for Board {
+    ghost from_gives = { λ side b. b ≡ board side };
+
+    fn from(side: Side) -> Board {
+        let side = match side {
             Side::Four => 4,
             Side::Nine => 9,
         };
         Board::of_side(side).unwrap()
+    }
+}
+
+impl FromStr for Side {
+    type Err = UnknownName;
+
+    ghost from_str_gives = { λ word r. result_ok r ≡ side_of word };
+
+    fn from_str(word: &str) -> Result<Side, UnknownName> {
+        match word {
+            "4" => Ok(Side::Four),
+            "9" => Ok(Side::Nine),
+            _ => Err(UnknownName),
+        }
     }
 }
 
@@ -30,6 +47,22 @@ pub enum KindName {
     Cage,
     Thermometer,
     Arrow,
+}
+
+impl FromStr for KindName {
+    type Err = UnknownName;
+
+    ghost from_str_gives = { λ word r. result_ok r ≡ kind_of word };
+
+    fn from_str(word: &str) -> Result<KindName, UnknownName> {
+        match word {
+            "givens" => Ok(KindName::Givens),
+            "cage" => Ok(KindName::Cage),
+            "thermometer" => Ok(KindName::Thermometer),
+            "arrow" => Ok(KindName::Arrow),
+            _ => Err(UnknownName),
+        }
+    }
 }
 
 // A part on an empty board.

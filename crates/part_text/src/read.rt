@@ -1,12 +1,11 @@
 // Reads a part from its words: `TOTALLER SIDE KIND TOTAL BODY`.
-ghost use Rattle.std.specs.Prelude.{◌≡◌, map, IfOk};
-ghost use Rattle.std.specs.Str.Parse.{ParsesUnsigned};
-ghost use Rattle.part_text.specs.Reading.{Body, Cells, Characters, Says, kind_of, side_of};
+ghost use Rattle.std.specs.Prelude.{map, IfOk};
+ghost use Rattle.part_text.specs.Reading.{Body, Cells, Characters, Says};
 
 use crate::fault::PartTextFault;
-use crate::part::{KindName, Part, Side};
+use crate::part::{KindName, Part};
 use std::alloc::Global;
-use sum_text::read_method;
+use sum_text::read_word;
 
 // The part that the words say, or the first word that is wrong.
 pub fn read_part<'a>(heap: Global, words: &[&'a str]) -> Result<Part, PartTextFault<'a>>
@@ -15,10 +14,10 @@ pub fn read_part<'a>(heap: Global, words: &[&'a str]) -> Result<Part, PartTextFa
     let [method, side, kind, total, body @ ..] = words else {
         return Err(PartTextFault::TooFewWords);
     };
-    let method = read_method(method).ok_or(PartTextFault::Method(method))?;
-    let side = read_side(side).ok_or(PartTextFault::Side(side))?;
-    let kind = read_kind(kind).ok_or(PartTextFault::Kind(kind))?;
-    let total = read_total(total)?;
+    let method = read_word(method, PartTextFault::Method(method))?;
+    let side = read_word(side, PartTextFault::Side(side))?;
+    let kind = read_word(kind, PartTextFault::Kind(kind))?;
+    let total = read_word(total, PartTextFault::Total(total))?;
     let body = read_body(heap, kind, body)?;
     Ok(Part {
         method,
@@ -27,34 +26,6 @@ pub fn read_part<'a>(heap: Global, words: &[&'a str]) -> Result<Part, PartTextFa
         total,
         body,
     })
-}
-
-fn read_side(word: &str) -> Option<Side>
-    ensures { result ≡ side_of word.now }
-{
-    match word {
-        "4" => Some(Side::Four),
-        "9" => Some(Side::Nine),
-        _ => None,
-    }
-}
-
-fn read_kind(word: &str) -> Option<KindName>
-    ensures { result ≡ kind_of word.now }
-{
-    match word {
-        "givens" => Some(KindName::Givens),
-        "cage" => Some(KindName::Cage),
-        "thermometer" => Some(KindName::Thermometer),
-        "arrow" => Some(KindName::Arrow),
-        _ => None,
-    }
-}
-
-fn read_total<'a>(word: &'a str) -> Result<u32, PartTextFault<'a>>
-    ensures { ParsesUnsigned 32 10 word.now result }
-{
-    word.parse().ok().ok_or(PartTextFault::Total(word))
 }
 
 // What stands behind the total.
@@ -90,13 +61,7 @@ fn read_cells<'a>(heap: Global, words: &[&'a str]) -> Result<Vec<u8>, PartTextFa
 {
     let mut body = Vec::new(heap);
     for word in words {
-        body.push(read_cell(word)?)?;
+        body.push(read_word(word, PartTextFault::Cell(word))?)?;
     }
     Ok(body)
-}
-
-fn read_cell<'a>(word: &'a str) -> Result<u8, PartTextFault<'a>>
-    ensures { ParsesUnsigned 8 10 word.now result }
-{
-    word.parse().ok().ok_or(PartTextFault::Cell(word))
 }

@@ -1,6 +1,6 @@
 -- Tests of a part's body and of a grid. Each tells the first entry that offends.
-use Rattle.std.specs.Prelude.{ℕ, ◌+◌, ◌-◌, Bool, false, cond, not, ◌&&◌, ◌||◌, List, [], ◌∷◌, length, take, Some, None, Option, ◌==◌, nat_le, slice_index}
-use Rattle.std.specs.List.{range_with_len}
+use Rattle.std.specs.Prelude.{ℕ, ◌+◌, ◌-◌, Bool, cond, not, ◌&&◌, List, [], ◌∷◌, length, take, Some, None, Option, ◌==◌, nat_le, slice_index}
+use Rattle.std.specs.List.{list_any, range_with_len}
 use Rattle.boards.specs.declared.board.Board.{Board}
 use Rattle.boards.specs.Atoms.{cell_variables}
 use Rattle.boards.specs.Board.{cells, column_of, row_of, side}
@@ -26,9 +26,9 @@ beyond b body i = nat_le (cells b) (slice_index body i)
 abbrev pub cell_fault : Board → List ℕ → Option KindFault
 cell_fault b body = index_fault (beyond b body) Cell body
 
+-- x is one of the list
 abbrev pub has : ℕ → List ℕ → Bool
-has x [] = false
-has x (y ∷ ys) = y == x || has x ys
+has x ys = list_any (λ y. y == x) ys
 
 -- the cell at i stands before it
 abbrev pub repeated : List ℕ → ℕ → Bool

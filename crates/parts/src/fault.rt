@@ -32,11 +32,11 @@ pub enum KindFault {
     Place(PlaceFault),
 }
 
-impl KindFault {
-    pub fn refusal(self) -> Refusal
-        ensures { result ≡ refusal self }
-    {
-        let (number, position) = match self {
+impl From<KindFault> for Refusal {
+    ghost from_gives = { λ e r. r ≡ refusal e };
+
+    fn from(fault: KindFault) -> Refusal {
+        let (number, position) = match fault {
             KindFault::BodyLength => (2, 0),
             KindFault::Character { index } => (3, index),
             KindFault::Cell { index } => (4, index),
@@ -46,8 +46,8 @@ impl KindFault {
             KindFault::FirstNumber => (8, 0),
             KindFault::GridLength => (12, 0),
             KindFault::GridDigit { index } => (13, index),
-            KindFault::Totaller(fault) => return fault.refusal(),
-            KindFault::Place(fault) => return fault.refusal(),
+            KindFault::Totaller(fault) => return Refusal::from(fault),
+            KindFault::Place(fault) => return Refusal::from(fault),
         };
         Refusal {
             number,

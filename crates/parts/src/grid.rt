@@ -12,16 +12,13 @@ pub fn check_grid(board: &Board, grid: &[u8]) -> Result<(), KindFault>
     if grid.len() != board.cells() {
         return Err(KindFault::GridLength);
     }
-    for index in 0..grid.len() {
-        if !is_digit(board, grid[index]) {
-            return Err(KindFault::GridDigit { index });
-        }
-    }
-    Ok(())
+    grid.iter()
+        .position(|entry| !is_digit(board, *entry))
+        .map_or(Ok(()), |index| Err(KindFault::GridDigit { index }))
 }
 
 fn is_digit(board: &Board, entry: u8) -> bool
     ensures { result ≡ digit board.now entry }
 {
-    1 <= entry && entry as usize <= board.side()
+    (1..=board.side()).contains(&(entry as usize))
 }

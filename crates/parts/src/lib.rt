@@ -4,7 +4,9 @@
 mod cells;
 mod fault;
 mod grid;
+mod part;
 
 pub use cells::{check_cells, check_distinct, check_first, check_length, check_touching, touches};
 pub use fault::KindFault;
 pub use grid::check_grid;
+pub use part::Part;

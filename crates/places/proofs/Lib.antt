@@ -1,2 +1,3 @@
 pub mod Clauses
+pub mod Loops
 pub mod Written

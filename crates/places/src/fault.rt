@@ -1,6 +1,8 @@
 ghost use Rattle.std.specs.Prelude.{◌≡◌};
 ghost use Rattle.places.specs.Fault.{refusal};
 
+use std::fmt;
+
 // The layer that was the first to know of a fault.
 #[derive(Clone, Copy, PartialEq, Eq, Debug)]
 pub enum Layer {
@@ -19,6 +21,17 @@ pub struct Refusal {
     pub position: usize,
 }
 
+impl fmt::Display for Refusal {
+    fn fmt<W: fmt::Write>(&self, f: &mut fmt::Formatter<W>) -> fmt::Result {
+        let Refusal {
+            number,
+            layer,
+            position,
+        } = self;
+        write!(f, "number {number}, layer {layer:?}, position {position}")
+    }
+}
+
 // Why a place refuses a clause.
 #[derive(Clone, Copy, PartialEq, Eq, Debug)]
 pub enum PlaceFault {
@@ -30,11 +43,11 @@ pub enum PlaceFault {
     NoSpace { held: usize },
 }
 
-impl PlaceFault {
-    pub fn refusal(self) -> Refusal
-        ensures { result ≡ refusal self }
-    {
-        let (number, position) = match self {
+impl From<PlaceFault> for Refusal {
+    ghost from_gives = { λ e r. r ≡ refusal e };
+
+    fn from(fault: PlaceFault) -> Refusal {
+        let (number, position) = match fault {
             PlaceFault::ClauseLength => (9, 0),
             PlaceFault::Literal { index } => (9, index),
             PlaceFault::NoSpace { held } => (25, held),

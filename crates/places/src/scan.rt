@@ -34,16 +34,14 @@ pub fn last_lines<T: Element>(buffer: &[T], lines: usize) -> usize
     ensures most { count_by T.Element.ends (drop result buffer.now) ≤ lines }
     ensures least { (k : ℕ) → k < result → lines < count_by T.Element.ends (drop k buffer.now) }
 {
-    let mut start = buffer.len();
     let mut left = lines;
-    while start > 0 {
-        if buffer[start - 1].ends_line() {
+    for (index, element) in buffer.iter().enumerate().rev() {
+        if element.ends_line() {
             if left == 0 {
-                break;
+                return index + 1;
             }
             left -= 1;
         }
-        start -= 1;
     }
-    start
+    0
 }

@@ -2,6 +2,7 @@
 #![tactic(auto)]
 
 mod running;
+mod running_step;
 mod running_table;
 
 pub use running::RunningTotals;

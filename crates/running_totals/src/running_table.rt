@@ -1,189 +1,91 @@
 // The clauses of running totals.
-ghost use Rattle.std.specs.Prelude.{◌≡◌, ◌+◌, ◌*◌, ◌<◌, ◌≤◌, true, [], ◌∷◌, length, pos, neg_ℤ};
+ghost use Rattle.std.specs.Prelude.{◌≡◌, ◌+◌, ◌*◌, ◌<◌, ◌≤◌, true, [], ◌∷◌, length};
 ghost use Rattle.std.specs.List.{range_with_len, flat_map};
 ghost use Rattle.std.specs.Result.{result_err};
 ghost use Rattle.formulas.specs.Clause.{usable};
 ghost use Rattle.formulas.specs.Numbered.{numbered};
 ghost use Rattle.places.specs.Written.{Writes};
-ghost use Rattle.totals.specs.Running.{first_row, no_other_sum, rows, running, step, with_item, without_item};
-ghost use Rattle.totallers.specs.Writing.{number, sum_clauses};
-ghost use Rattle.running_totals.specs.Room.{Room};
+ghost use Rattle.totals.specs.Running.{first_row, no_other_sum, rows, running, step};
+ghost use Rattle.totallers.specs.Writing.{sum_clauses};
+ghost use Rattle.running_totals.specs.Room.{Room, numbers};
 
+use crate::running_step::Step;
 use places::{Place, PlaceFault};
+use totallers::Sum;
 
-// The table's sums go up to the target, and its variables begin at `first`.
+// The table of a sum goes up to its target, and its variables begin at the first fresh number.
 #[derive(Clone, Copy)]
-pub(crate) struct Table {
-    pub(crate) target: u32,
-    pub(crate) first: u32,
+pub(crate) struct Table<'a> {
+    pub(crate) sum: Sum<'a>,
+    // There is room for its numbers, and its items can be literals.
+    ghost room: { Room sum },
 }
 
-impl Table {
+impl Table<'_> {
     // Writes all clauses: of no item, of each item more, and that all items add to the target.
-    pub(crate) fn write<P: Place>(
-        self,
-        variables: &[u32],
-        weights: &[u8],
-        place: &mut P,
-    ) -> Result<(), PlaceFault>
-        requires room { Room variables.now self.target self.first }
-        requires same { length variables.now ≡ length weights.now }
-        ensures { Writes P.Place (sum_clauses running variables.now weights.now self.target self.first) place.old place.new (result_err result) }
+    pub(crate) fn write<P: Place>(&self, place: &mut P) -> Result<(), PlaceFault>
+        ensures { Writes P.Place (sum_clauses running self.now.sum.variables.now self.now.sum.weights.now self.now.sum.target self.now.sum.first) place.old place.new (result_err result) }
     {
-        write_first_row(self, variables, place)?;
-        write_rows(self, variables, weights, place)?;
-        write_unit(self.total(weights.len(), self.target) as i32, place)
+        self.write_first_row(place)?;
+        self.write_rows(place)?;
+        let all = self.total(self.sum.weights.len(), self.sum.target);
+        write_unit(all as i32, place)
     }
 
     // The variable which says that so many items add to the sum.
-    fn total(self, items: usize, sum: u32) -> u32
-        requires items { items ≤ 96 }
-        requires sum { sum ≤ 63 }
-        requires target { self.target ≤ 63 }
-        requires first { self.first ≤ 65536 }
-        ensures { result ≡ self.first + (items * (self.target + 1) + sum) }
+    pub(crate) fn total(&self, items: usize, sum: u32) -> u32
+        requires items { items ≤ length self.now.sum.variables.now }
+        requires sum { sum ≤ self.now.sum.target }
+        ensures is { result ≡ self.now.sum.first + (items * (self.now.sum.target + 1) + sum) }
+        ensures low { 1 ≤ result }
+        ensures high { result ≤ 65535 }
     {
-        self.first + (items as u32 * (self.target + 1) + sum)
+        self.sum.first + (items as u32 * (self.sum.target + 1) + sum)
     }
-}
 
-// Unless the literal is true, the two variables are alike.
-fn write_same_unless<P: Place>(
-    unless: i32,
-    one: u32,
-    other: u32,
-    place: &mut P,
-) -> Result<(), PlaceFault>
-    requires unless { usable unless ≡ true }
-    requires one { (1 ≤ one) × (one ≤ 65535) }
-    requires other { (1 ≤ other) × (other ≤ 65535) }
-    ensures { Writes P.Place ((unless ∷ neg_ℤ (pos one) ∷ pos other ∷ []) ∷ (unless ∷ pos one ∷ neg_ℤ (pos other) ∷ []) ∷ []) place.old place.new (result_err result) }
-{
-    let (one, other) = (one as i32, other as i32);
-    place.put(&[unless, -one, other])?;
-    place.put(&[unless, one, -other])
-}
-
-// With the item, the sum is reached from the sum without its weight.
-fn write_with_item<P: Place>(
-    table: Table,
-    variables: &[u32],
-    index: usize,
-    weight: u8,
-    sum: u32,
-    place: &mut P,
-) -> Result<(), PlaceFault>
-    requires room { Room variables.now table.target table.first }
-    requires item { index < length variables.now }
-    requires sum { sum ≤ table.target }
-    ensures { Writes P.Place (numbered (number variables.now table.first) (with_item table.target index weight sum)) place.old place.new (result_err result) }
-{
-    let variable = variables[index] as i32;
-    let reached = table.total(index + 1, sum);
-    let weight = weight as u32;
-    if sum >= weight {
-        write_same_unless(-variable, reached, table.total(index, sum - weight), place)
-    } else {
-        place.put(&[-variable, -(reached as i32)])
+    // No item: the sum is 0, and no other.
+    fn write_first_row<P: Place>(&self, place: &mut P) -> Result<(), PlaceFault>
+        ensures { Writes P.Place (numbered (numbers self.now.sum) (first_row self.now.sum.target)) place.old place.new (result_err result) }
+    {
+        write_unit(self.total(0, 0) as i32, place)?;
+        self.write_no_other_sum(place)
     }
-}
 
-// Without the item, the sum is reached from itself.
-fn write_without_item<P: Place>(
-    table: Table,
-    variables: &[u32],
-    index: usize,
-    sum: u32,
-    place: &mut P,
-) -> Result<(), PlaceFault>
-    requires room { Room variables.now table.target table.first }
-    requires item { index < length variables.now }
-    requires sum { sum ≤ table.target }
-    ensures { Writes P.Place (numbered (number variables.now table.first) (without_item table.target index sum)) place.old place.new (result_err result) }
-{
-    let variable = variables[index] as i32;
-    let reached = table.total(index + 1, sum);
-    write_same_unless(variable, reached, table.total(index, sum), place)
-}
-
-// One sum, once an item more is looked at.
-fn write_step<P: Place>(
-    table: Table,
-    variables: &[u32],
-    index: usize,
-    weight: u8,
-    sum: u32,
-    place: &mut P,
-) -> Result<(), PlaceFault>
-    requires room { Room variables.now table.target table.first }
-    requires item { index < length variables.now }
-    requires sum { sum ≤ table.target }
-    ensures { Writes P.Place (numbered (number variables.now table.first) (step table.target index weight sum)) place.old place.new (result_err result) }
-{
-    write_with_item(table, variables, index, weight, sum, place)?;
-    write_without_item(table, variables, index, sum, place)
-}
-
-// All sums, once an item more is looked at.
-fn write_row<P: Place>(
-    table: Table,
-    variables: &[u32],
-    index: usize,
-    weight: u8,
-    place: &mut P,
-) -> Result<(), PlaceFault>
-    requires room { Room variables.now table.target table.first }
-    requires item { index < length variables.now }
-    ensures { Writes P.Place (numbered (number variables.now table.first) (flat_map (step table.target index weight) (range_with_len 0 (table.target + 1)))) place.old place.new (result_err result) }
-{
-    for sum in 0..table.target + 1 {
-        write_step(table, variables, index, weight, sum, place)?;
+    fn write_no_other_sum<P: Place>(&self, place: &mut P) -> Result<(), PlaceFault>
+        ensures { Writes P.Place (numbered (numbers self.now.sum) (no_other_sum self.now.sum.target)) place.old place.new (result_err result) }
+    {
+        for sum in 1..=self.sum.target {
+            write_unit(-(self.total(0, sum) as i32), place)?;
+        }
+        Ok(())
     }
-    Ok(())
-}
 
-// The rows of all items.
-fn write_rows<P: Place>(
-    table: Table,
-    variables: &[u32],
-    weights: &[u8],
-    place: &mut P,
-) -> Result<(), PlaceFault>
-    requires room { Room variables.now table.target table.first }
-    requires same { length variables.now ≡ length weights.now }
-    ensures { Writes P.Place (numbered (number variables.now table.first) (rows weights.now table.target)) place.old place.new (result_err result) }
-{
-    for index in 0..weights.len() {
-        write_row(table, variables, index, weights[index], place)?;
+    // The rows of all items.
+    fn write_rows<P: Place>(&self, place: &mut P) -> Result<(), PlaceFault>
+        ensures { Writes P.Place (numbered (numbers self.now.sum) (rows self.now.sum.weights.now self.now.sum.target)) place.old place.new (result_err result) }
+    {
+        for (index, weight) in self.sum.weights.iter().enumerate() {
+            self.write_row(index, *weight, place)?;
+        }
+        Ok(())
     }
-    Ok(())
-}
 
-// No item: the sum is 0, and no other.
-fn write_first_row<P: Place>(
-    table: Table,
-    variables: &[u32],
-    place: &mut P,
-) -> Result<(), PlaceFault>
-    requires room { Room variables.now table.target table.first }
-    ensures { Writes P.Place (numbered (number variables.now table.first) (first_row table.target)) place.old place.new (result_err result) }
-{
-    write_unit(table.total(0, 0) as i32, place)?;
-    write_no_other_sum(table, variables, place)
-}
-
-fn write_no_other_sum<P: Place>(
-    table: Table,
-    variables: &[u32],
-    place: &mut P,
-) -> Result<(), PlaceFault>
-    requires room { Room variables.now table.target table.first }
-    ensures { Writes P.Place (numbered (number variables.now table.first) (no_other_sum table.target)) place.old place.new (result_err result) }
-{
-    for index in 0..table.target {
-        write_unit(-(table.total(0, index + 1) as i32), place)?;
+    // All sums, once an item more is looked at.
+    fn write_row<P: Place>(&self, index: usize, weight: u8, place: &mut P) -> Result<(), PlaceFault>
+        requires { index < length self.now.sum.variables.now }
+        ensures { Writes P.Place (numbered (numbers self.now.sum) (flat_map (step self.now.sum.target index weight) (range_with_len 0 (self.now.sum.target + 1)))) place.old place.new (result_err result) }
+    {
+        for sum in 0..=self.sum.target {
+            let step = Step {
+                table: *self,
+                index,
+                weight,
+                sum,
+            };
+            step.write(place)?;
+        }
+        Ok(())
     }
-    Ok(())
 }
 
 // The literal is true.

@@ -1,8 +1,8 @@
 -- A list that is made of marked pieces is cut into those pieces again.
-use Rattle.std.proofs.Common.{◌≡◌, ℕ, ◌+◌, ◌-◌, ◌<◌, ◌≤◌, Bool, true, false, cond, not, List, [], ◌∷◌, ◌++◌, map, length, get_or, take, drop, count_by, sym, refl, ap, ◌∙◌, ap₂, inl, inr, append_assoc, append-nil, arith, length-drop}
+use Rattle.std.proofs.Common.{◌≡◌, ℕ, ◌+◌, ◌-◌, ◌<◌, ◌≤◌, Bool, true, cond, not, List, [], ◌∷◌, ◌++◌, map, length, get_or, take, drop, count_by, sym, refl, ap, ◌∙◌, inl, inr, append_assoc, append-nil, arith, length-drop}
 use Rattle.std.specs.List.{flat_map}
-use Rattle.std.proofs.lemmas.List.{drop-append-le, drop_at, drop-drop, length_push, take_more}
-use Rattle.std.proofs.lemmas.List.Sums.{sum_by-append, sum_by-cons, sum_by-drop_more, sum_by-take-drop}
+use Rattle.std.proofs.lemmas.List.{drop-append-le, drop_at, length_push, take_more}
+use Rattle.std.proofs.lemmas.List.Sums.{sum_by-append, sum_by-cons}
 use Rattle.std.proofs.lemmas.Bool.{and_parts, cases_eq, cases_lt, not-true, cond-true, cond-false, cond_both}
 use Rattle.formulas.specs.Clause.{every}
 use Rattle.formulas.proofs.Every.{every_drop}
@@ -118,30 +118,3 @@ module _ {X A : Type 0} (ends : X → Bool) (e : X) (marks : ends e ≡ true) (b
           | inr q ↦ absurd (omega (arith, least s (omega arith), behind m (omega arith), same s))
         ]
       ]
-
--- What a walk from the end of a list counts.
-module _ {X : Type 0} (ends : X → Bool) (xs : List X) where
-  pub counted_end : count_by ends (drop (length xs) xs) ≡ 0
-  counted_end = ap (count_by ends) (drop_all xs)
-    where
-      drop_all : (ys : List X) → drop (length ys) ys ≡ []
-      drop_all [] = refl
-      drop_all (y ∷ ys) = drop_all ys
-
-  module _ (n : ℕ) (x : X) (some : 0 < n) (fits : n ≤ length xs) (at : x ≡ get_or xs (n - 1) x) where
-    back : count_by ends (drop (n - 1) xs) ≡ cond (ends x) 1 0 + count_by ends (drop n xs)
-    back =
-        let e : n - 1 + 1 ≡ n = omega arith in
-        sum_by-drop_more (λ y. cond (ends y) 1 0) xs (n - 1) x (omega arith) ∙
-        ap₂ (λ y k. cond (ends y) 1 0 + count_by ends (drop k xs)) (sym at) e
-
-    pub counted_mark : ends x ≡ true → count_by ends (drop (n - 1) xs) ≡ 1 + count_by ends (drop n xs)
-    counted_mark h = back ∙ ap (λ k. k + count_by ends (drop n xs)) (cond-true {A = ℕ} (ends x) 1 0 h)
-
-    pub counted_plain : ends x ≡ false → count_by ends (drop (n - 1) xs) ≡ count_by ends (drop n xs)
-    counted_plain h = back ∙ ap (λ k. k + count_by ends (drop n xs)) (cond-false {A = ℕ} (ends x) 1 0 h) ∙ omega arith
-
-  pub counted_more : (j k : ℕ) → j ≤ k → count_by ends (drop k xs) ≤ count_by ends (drop j xs)
-  counted_more j k l =
-      let e : j + (k - j) ≡ k = omega arith in
-      omega (arith, sum_by-take-drop (λ y. cond (ends y) 1 0) (drop j xs) (k - j), ap (count_by ends) (drop-drop (k - j) j xs ∙ ap (λ i. drop i xs) e))

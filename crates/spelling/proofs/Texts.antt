@@ -9,11 +9,11 @@ use Rattle.std.proofs.lemmas.Str.Parse.{without_leading_plus_none}
 use Rattle.std.proofs.lemmas.Bool.{and_parts, and_from, lt-ltb, ne_eqb, cond-false}
 use Rattle.std.proofs.lemmas.Bool.Decides.{nat_tests}
 use Rattle.formulas.specs.Clause.{every, usable, valid, right_length}
-use Rattle.spelling.specs.Text.{spaced, text_body, spelled_text, is_space, is_line_feed, literals_in, clauses_in_text, text_charge}
+use Rattle.spelling.specs.Text.{spaced, text_body, spelled_text, is_space, is_line_feed, literals_in, clauses_in_text, text}
 use Rattle.spelling.specs.Spelling.{pieces}
 use Rattle.formulas.proofs.Every.{every_append, every_push, every_weaker}
 use Rattle.spelling.proofs.Pieces.{pieces_closed, length_pieces}
-use Rattle.spelling.proofs.Store.{Spelling}
+use Rattle.spelling.specs.Store.{Lawful}
 
 -- a byte that is no space and no line feed
 abbrev inky : ℕ → Bool
@@ -99,17 +99,5 @@ text_back cs h =
 pub few_lines : (bs : List ℕ) → length (clauses_in_text bs) ≤ length bs
 few_lines bs = omega (arith, length-map (pieces is_line_feed bs) literals_in, length_pieces is_line_feed bs)
 
-abbrev pub text : Spelling ℕ
-text = record {
-  blank = 0;
-  mark = 10;
-  ends = is_line_feed;
-  body = text_body;
-  read = clauses_in_text;
-  charge = text_charge;
-  marks = refl;
-  plain = no_feeds;
-  charged = λ c. refl;
-  back = text_back;
-  few = few_lines;
-}
+pub text_lawful : Lawful is_line_feed text
+text_lawful = record { marks = refl; plain = no_feeds; charged = λ c. refl; back = text_back; few = few_lines }

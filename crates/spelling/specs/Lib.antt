@@ -1,3 +1,4 @@
 pub mod Spelling
 pub mod Word
 pub mod Text
+pub mod Store

@@ -4,6 +4,7 @@ use Rattle.std.specs.List.{flat_map}
 use Rattle.std.specs.Str.Parse.{signed_digits_value}
 use Rattle.std.specs.Fmt.{signed_decimal}
 use Rattle.spelling.specs.Spelling.{pieces}
+use Rattle.spelling.specs.Store.{Spelling}
 
 -- the literals, as `{}` writes them, each with the space after it
 abbrev pub spaced : List ℤ → List ℕ
@@ -34,6 +35,10 @@ clauses_in_text bs = map literals_in (pieces is_line_feed bs)
 
 abbrev pub text_charge : List ℤ → ℕ
 text_charge c = length (text_line c)
+
+-- clauses as lines of text
+abbrev pub text : Spelling ℕ
+text = record { blank = 0; mark = 10; body = text_body; read = clauses_in_text; charge = text_charge }
 
 -- the first line of a clause text: how many variables and how many clauses it has
 abbrev pub heading : ℕ → ℕ → List ℕ

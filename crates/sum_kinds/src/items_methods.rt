@@ -1,38 +1,26 @@
-ghost use Rattle.std.specs.Prelude.{◌≡◌, ◌+◌, ◌<◌, [], ◌∷◌, ◌++◌};
-ghost use Rattle.sum_kinds.specs.Items.{variables_of, weights_of};
+ghost use Rattle.std.specs.Prelude.{◌≡◌, ◌<◌, [], ◌∷◌};
+ghost use Rattle.arrayvec.specs.ArrayVec.{array_vec_len};
+ghost use Rattle.sum_kinds.specs.Items.{Longer};
 
-use crate::items::{Items, SPACE};
+use crate::items::Items;
+use arrayvec::ArrayVec;
 
 impl Items {
     pub(crate) fn none() -> Items
-        ensures { (variables_of result ≡ []) × ((weights_of result ≡ []) × (result.len ≡ 0)) }
+        ensures { (result.variables.items ≡ []) × (result.weights.items ≡ []) }
     {
         Items {
-            variables: [0; SPACE],
-            weights: [0; SPACE],
-            len: 0,
+            variables: ArrayVec::new(),
+            weights: ArrayVec::new(),
         }
     }
 
     // An item more, at the end.
     pub(crate) fn push(&mut self, variable: u32, weight: u8)
-        requires { self.old.len < 272 }
-        ensures { (variables_of self.new ≡ variables_of self.old ++ variable ∷ []) × ((weights_of self.new ≡ weights_of self.old ++ weight ∷ []) × (self.new.len ≡ self.old.len + 1)) }
+        requires { array_vec_len self.old.variables < 272 }
+        ensures { Longer self.old (variable ∷ []) (weight ∷ []) self.new }
     {
-        self.variables[self.len] = variable;
-        self.weights[self.len] = weight;
-        self.len += 1;
-    }
-
-    pub(crate) fn variables(&self) -> &[u32]
-        ensures { result.now ≡ variables_of self.now }
-    {
-        &self.variables[0..self.len]
-    }
-
-    pub(crate) fn weights(&self) -> &[u8]
-        ensures { result.now ≡ weights_of self.now }
-    {
-        &self.weights[0..self.len]
+        self.variables.push(variable);
+        self.weights.push(weight);
     }
 }

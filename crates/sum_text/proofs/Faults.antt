@@ -1,8 +1,7 @@
 -- Words that are wrong, and the fault that says which is the first.
 use Rattle.std.proofs.Common.{◌≡◌, ℕ, zero, suc, ◌-◌, ◌<◌, ◌≤◌, Bool, true, false, cond, eqb, List, [], ◌∷◌, map, length, get_or, take, drop, IsErrAnd, Some, None, Ok, Err, Option, Result, Vec, sym, refl, ap, ◌∙◌, subst, inl, inr, arith, Bor}
 use Rattle.std.specs.Option.{ok_or}
-use Rattle.std.specs.Str.Parse.{AllDigits, ParsesUnsigned, without_leading_plus}
-use Rattle.std.specs.Result.{result_ok}
+use Rattle.std.specs.Str.Parse.{AllDigits, without_leading_plus}
 use Rattle.std.specs.declared.alloc.Global.{Global}
 use Rattle.std.proofs.lemmas.List.{get_or_default}
 use Rattle.std.proofs.lemmas.Str.Parse.{digit_at}
@@ -11,7 +10,7 @@ use Rattle.std.proofs.lemmas.Bool.{eqb-true}
 use Rattle.formulas.proofs.Lists.{rest_is}
 use Rattle.sum_text.specs.declared.fault.SumTextFault.{SumTextFault}
 use Rattle.sum_text.specs.declared.fault.SumTextFault.TheVariants as fault
-use Rattle.sum_text.specs.declared.sum.Sum.{Sum}
+use Rattle.sum_text.specs.declared.sum.OwnedSum.{OwnedSum}
 use Rattle.sum_text.specs.Reading.{IsMethod, IsNumber, Item, ItemRead, ItemsRead, Number, SumRead, Wrong}
 use Rattle.sum_text.proofs.Words.{no_word, word_at}
 
@@ -45,17 +44,17 @@ parts w r before behind h e variable weight (front, back, is, one, two) =
     let at_weight : List ℕ → Type 0 = λ l. Number 8 l weight in
     (subst at_variable (sym same.0) one, subst at_weight (sym same.1) two)
 
--- `parse` found nothing
-pub no_number : {E : Type 0} (bits : ℕ) (w : List ℕ) (r : Result ℕ E) → ParsesUnsigned bits 10 w r → result_ok r ≡ None → (n : ℕ) → Number bits w n → ⊥
-no_number bits w (Ok m) h e n is = absurd (grind arith)
-no_number bits w (Err x) h e n is = h is.0
+-- the word is no item
+pub unread : (w : Bor (List ℕ)) (r : Result (ℕ × ℕ) SumTextFault) (x : SumTextFault) → IsErrAnd r (λ y. y ≡ x) → x ≡ fault.Item w →
+    ((variable weight : ℕ) → Item w.now variable weight → ⊥) → ItemRead w r
+unread w (Ok p) x by is none = absurd by
+unread w (Err y) x by is none = (by ∙ is, λ item. none item.0 item.1 item.2)
 
--- the word is no item, and `ok_or` says so
+-- the same, where `ok_or` says so
 pub no_item : {T : Type 0} (w : Bor (List ℕ)) (r : Result (ℕ × ℕ) SumTextFault) (x : SumTextFault) (o : Option T) → IsErrAnd r (λ y. y ≡ x) →
     Err x ≡ ok_or o (fault.Item w) → (o ≡ None → (variable weight : ℕ) → Item w.now variable weight → ⊥) → ItemRead w r
-no_item w (Ok p) x o by e none = absurd by
-no_item w (Err y) x (Some v) by e none = absurd (grind arith)
-no_item w (Err y) x None by e none = (cc, λ item. none refl item.0 item.1 item.2)
+no_item w r x (Some v) by e none = absurd (grind arith)
+no_item w r x None by e none = unread w r x by (grind arith) (none refl)
 
 -- the word at i is the first that is no item
 pub first_item : (refs : List (Bor (List ℕ))) (i : ℕ) (vs ks : List ℕ) (x : SumTextFault) (r : Result (Vec ℕ Global × Vec ℕ Global) SumTextFault) → i < length refs →
@@ -79,7 +78,7 @@ first_item refs i vs ks x (Err y) l old new by =
     )
 
 -- a fault of the three words that there are, at least, or of those behind them is handed on
-pub wrong : (x : SumTextFault) (refs : List (Bor (List ℕ))) (r : Result Sum SumTextFault) → 3 ≤ length refs → IsErrAnd r (λ y. y ≡ x) →
+pub wrong : (x : SumTextFault) (refs : List (Bor (List ℕ))) (r : Result OwnedSum SumTextFault) → 3 ≤ length refs → IsErrAnd r (λ y. y ≡ x) →
     Wrong (get_or refs 0 no_word) (get_or refs 1 no_word) (get_or refs 2 no_word) (take (length refs - 3) (drop 3 refs)) x → SumRead refs r
 wrong x refs (Ok s) l by h = absurd by
 wrong x [] (Err y) l by h = absurd (omega arith)
@@ -92,11 +91,6 @@ wrong x (m ∷ t ∷ f ∷ ws) (Err y) l by h =
 
 -- The words m, t, f and ws, of which the first names a totaller.
 module _ (m t f : Bor (List ℕ)) (ws : List (Bor (List ℕ))) (x : SumTextFault) (method : IsMethod m) where
-  pub no_target : (x ≡ fault.Number t) × (IsNumber t → ⊥) → Wrong m t f ws x
-  no_target (is, none) =
-      let at : SumTextFault → Type 0 = λ z. Wrong m t f ws z in
-      subst at (sym is) (method, record { place = 0; inside = omega arith; there = refl; before = λ k l. absurd (omega arith); wrong = none })
-
   pub no_first : IsNumber t → (x ≡ fault.Number f) × (IsNumber f → ⊥) → Wrong m t f ws x
   no_first one (is, none) =
       let at : SumTextFault → Type 0 = λ z. Wrong m t f ws z in

@@ -1,2 +1,4 @@
+pub mod Method
+pub mod Word
 pub mod Reading
 pub mod Writing

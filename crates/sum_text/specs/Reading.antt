@@ -1,18 +1,13 @@
 -- What the words of a sum say.
-use Rattle.std.specs.Prelude.{◌≡◌, ℕ, ◌<◌, cond, ◌⊎◌, List, [], ◌∷◌, ◌++◌, map, length, get_or, Some, None, Ok, Err, vec_items, codes, Option, Result, Vec, slice_index, slice_index_or}
+use Rattle.std.specs.Prelude.{◌≡◌, ℕ, ◌<◌, ◌⊎◌, List, [], ◌∷◌, ◌++◌, map, length, get_or, Some, Ok, Err, vec_items, Result, Vec, slice_index, slice_index_or}
 use Rattle.std.specs.Borrow.{Bor}
 use Rattle.std.specs.Str.Parse.{ParsesUnsigned}
-use Rattle.std.specs.Str.{bytes_eq}
 use Rattle.std.specs.declared.alloc.Global.{Global}
 use Rattle.sum_text.specs.declared.fault.SumTextFault.{SumTextFault}
 use Rattle.sum_text.specs.declared.fault.SumTextFault.TheVariants as fault
 use Rattle.sum_text.specs.declared.sum.Method.{Method}
-use Rattle.sum_text.specs.declared.sum.Method.TheVariants.{Running, Adder}
-use Rattle.sum_text.specs.declared.sum.Sum.{Sum}
-
--- the totaller that a word names
-abbrev pub method_of : List ℕ → Option Method
-method_of w = cond (bytes_eq w (codes "running")) (Some Running) (cond (bytes_eq w (codes "adder")) (Some Adder) None)
+use Rattle.sum_text.specs.declared.sum.OwnedSum.{OwnedSum}
+use Rattle.sum_text.specs.Method.{method_of}
 
 -- a word is a number of so many bits in base ten
 abbrev pub Number : ℕ → List ℕ → ℕ → Type 0
@@ -29,7 +24,7 @@ pub record Items (words : List (List ℕ)) (variables weights : List ℕ) : Type
   pub each : (k : ℕ) → k < length words → Item (slice_index_or words k []) (slice_index variables k) (slice_index weights k)
 
 -- the words say the sum: the totaller, the target, the first fresh number and the items
-abbrev pub Says : List (List ℕ) → Sum → Type 0
+abbrev pub Says : List (List ℕ) → OwnedSum → Type 0
 Says [] s = ⊥
 Says (m ∷ []) s = ⊥
 Says (m ∷ t ∷ []) s = ⊥
@@ -55,11 +50,6 @@ pub record FirstWrong (P : Bor (List ℕ) → Type 0) (words : List (Bor (List �
   pub there : get_or words place w ≡ w
   pub before : (k : ℕ) → k < place → P (slice_index_or words k w)
   pub wrong : P w → ⊥
-
--- a number is read, or the word is no number
-abbrev pub NumberRead : Bor (List ℕ) → Result ℕ SumTextFault → Type 0
-NumberRead w (Ok n) = Number 32 w.now n
-NumberRead w (Err f) = (f ≡ fault.Number w) × (IsNumber w → ⊥)
 
 -- an item is read, or the word is no item
 abbrev pub ItemRead : Bor (List ℕ) → Result (ℕ × ℕ) SumTextFault → Type 0
@@ -87,6 +77,6 @@ SaysNone (m ∷ t ∷ []) e = e ≡ fault.TooFewWords
 SaysNone (m ∷ t ∷ f ∷ ws) e = Wrong m t f ws e
 
 -- the sum that the words say is read, or they say none
-abbrev pub SumRead : List (Bor (List ℕ)) → Result Sum SumTextFault → Type 0
+abbrev pub SumRead : List (Bor (List ℕ)) → Result OwnedSum SumTextFault → Type 0
 SumRead words (Ok s) = Says (map (λ x. x.now) words) s
 SumRead words (Err e) = SaysNone words e

@@ -4,9 +4,11 @@
 mod fault;
 mod read;
 mod sum;
+mod word;
 mod writing;
 
-pub use fault::{SumTextFault, WriteFault};
-pub use read::{read_method, read_sum};
-pub use sum::{Method, Sum};
-pub use writing::{clause_text, write_sum};
+pub use fault::SumTextFault;
+pub use read::read_sum;
+pub use sum::{Method, OwnedSum};
+pub use word::{UnknownName, read_word};
+pub use writing::write_sum;

@@ -1,46 +1,29 @@
 // Reads a sum from its words: `METHOD TARGET FIRST VARIABLE:WEIGHT ...`.
-ghost use Rattle.std.specs.Prelude.{◌≡◌};
-ghost use Rattle.sum_text.specs.Reading.{ItemRead, ItemsRead, NumberRead, SumRead, method_of};
+ghost use Rattle.sum_text.specs.Reading.{ItemRead, ItemsRead, SumRead};
 
 use crate::fault::SumTextFault;
-use crate::sum::{Method, Sum};
+use crate::sum::OwnedSum;
+use crate::word::read_word;
 use std::alloc::Global;
 
 // The sum that the words say, or the first word that is wrong.
-pub fn read_sum<'a>(heap: Global, words: &[&'a str]) -> Result<Sum, SumTextFault<'a>>
+pub fn read_sum<'a>(heap: Global, words: &[&'a str]) -> Result<OwnedSum, SumTextFault<'a>>
     ensures { SumRead words.now result }
 {
     let [method, target, first, items @ ..] = words else {
         return Err(SumTextFault::TooFewWords);
     };
-    let method = read_method(method).ok_or(SumTextFault::Method(method))?;
-    let target = read_number(target)?;
-    let first = read_number(first)?;
+    let method = read_word(method, SumTextFault::Method(method))?;
+    let target = read_word(target, SumTextFault::Number(target))?;
+    let first = read_word(first, SumTextFault::Number(first))?;
     let (variables, weights) = read_items(heap, items)?;
-    Ok(Sum {
+    Ok(OwnedSum {
         method,
         target,
         first,
         variables,
         weights,
     })
-}
-
-// The totaller that a word names.
-pub fn read_method(word: &str) -> Option<Method>
-    ensures { result ≡ method_of word.now }
-{
-    match word {
-        "running" => Some(Method::Running),
-        "adder" => Some(Method::Adder),
-        _ => None,
-    }
-}
-
-fn read_number<'a>(word: &'a str) -> Result<u32, SumTextFault<'a>>
-    ensures { NumberRead word.entry result }
-{
-    word.parse().ok().ok_or(SumTextFault::Number(word))
 }
 
 // The variables and the weights of the items.
@@ -63,7 +46,7 @@ fn read_item<'a>(word: &'a str) -> Result<(u32, u8), SumTextFault<'a>>
 {
     let fault = SumTextFault::Item(word);
     let (variable, weight) = word.split_once(':').ok_or(fault)?;
-    let variable = variable.parse().ok().ok_or(fault)?;
-    let weight = weight.parse().ok().ok_or(fault)?;
+    let variable = read_word(variable, fault)?;
+    let weight = read_word(weight, fault)?;
     Ok((variable, weight))
 }

@@ -3,4 +3,4 @@
 
 mod text;
 
-pub use text::{TextPlace, write_heading};
+pub use text::{Lines, TextPlace, write_heading};

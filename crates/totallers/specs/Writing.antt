@@ -43,6 +43,10 @@ taking_fault 𝓣 ws t f =
     (cond (𝓣.fresh_count ws t == 0 || nat_le (f + 𝓣.fresh_count ws t) 65536) None (Some fault.FreshNumber))
     (Some (fault.NotTaken (length ws)))
 
+-- how many variables are fresh, where it takes them
+abbrev pub taken_count : Totaller → List ℕ → ℕ → Option ℕ
+taken_count 𝓣 ws t = cond (𝓣.takes (length ws) t) (Some (𝓣.fresh_count ws t)) None
+
 -- what is wrong before the first clause
 abbrev pub ready_fault : Totaller → List ℕ → List ℕ → ℕ → ℕ → Option TotallerFault
 ready_fault 𝓣 vs ws t f = option_or (items_fault vs ws f) (taking_fault 𝓣 ws t f)

@@ -20,16 +20,16 @@ pub enum TotallerFault {
     Place(PlaceFault),
 }
 
-impl TotallerFault {
-    pub fn refusal(self) -> Refusal
-        ensures { result ≡ refusal self }
-    {
-        let (number, position) = match self {
+impl From<TotallerFault> for Refusal {
+    ghost from_gives = { λ e r. r ≡ refusal e };
+
+    fn from(fault: TotallerFault) -> Refusal {
+        let (number, position) = match fault {
             TotallerFault::Items => (8, 0),
             TotallerFault::Item { index } => (8, index),
             TotallerFault::NotTaken { items } => (23, items),
             TotallerFault::FreshNumber => (24, 0),
-            TotallerFault::Place(fault) => return fault.refusal(),
+            TotallerFault::Place(fault) => return Refusal::from(fault),
         };
         Refusal {
             number,

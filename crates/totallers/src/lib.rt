@@ -2,9 +2,9 @@
 #![tactic(auto)]
 
 mod fault;
-mod items;
+mod sum;
 mod totaller;
 
 pub use fault::TotallerFault;
-pub use items::{check_fresh, check_items};
+pub use sum::Sum;
 pub use totaller::Totaller;

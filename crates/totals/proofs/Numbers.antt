@@ -5,38 +5,20 @@ use Rattle.std.proofs.lemmas.Bool.{cases_Bool}
 use Rattle.formulas.specs.Formula.{Formula}
 use Rattle.formulas.specs.Numbered.{plain}
 use Rattle.totals.specs.Adders.{Adder, full, half, Network, Reduced, adder_clauses, adder_formula, closing, full_clauses, half_clauses, has_bit, lines, network, reduce, wired, with_bit}
+use Rattle.totals.proofs.Extras as any
+use Rattle.totals.proofs.Extras.{turn}
 use Rattle.totals.specs.Numbers.{adder_count, adders_in, count_from, first_adder, line_of, lines_from, reduced, seconds, wiring}
-
--- one adder more before what a line comes to
-abbrev pub turn : Adder ℕ → ℕ → Reduced ℕ → Reduced ℕ
-turn g n r = record { adders = g ∷ r.adders; carries = (n + 1) ∷ r.carries; left = r.left }
 
 -- a line before the lines above it
 abbrev pub front : Reduced ℕ → Network ℕ → Network ℕ
 front r w = record { adders = r.adders ++ w.adders; bits = r.left ∷ w.bits }
 
--- how much fuel there is does not matter
-reduce_fuel : (m m' : ℕ) (ls : List ℕ) (n : ℕ) → length ls ≤ m → length ls ≤ m' → reduce (λ j. j) m ls n ≡ reduce (λ j. j) m' ls n
-reduce_fuel zero zero ls n l l' = refl
-reduce_fuel zero (suc m') [] n l l' = refl
-reduce_fuel zero (suc m') (a ∷ ls) n l l' = absurd (omega arith)
-reduce_fuel (suc m) zero [] n l l' = refl
-reduce_fuel (suc m) zero (a ∷ ls) n l l' = absurd (omega arith)
-reduce_fuel (suc m) (suc m') [] n l l' = refl
-reduce_fuel (suc m) (suc m') (a ∷ []) n l l' = refl
-reduce_fuel (suc m) (suc m') (a ∷ b ∷ []) n l l' = refl
-reduce_fuel (suc m) (suc m') (a ∷ b ∷ c ∷ ls) n l l' =
-    let e = length-append ls (n ∷ []) in
-    ap (turn (full a b c) n) (reduce_fuel m m' (ls ++ n ∷ []) (n + 2) (omega arith) (omega arith))
-
 -- the first adder takes the line's first variables, and its sum goes to the end
-pub reduced_turn : (ls : List ℕ) (n : ℕ) → 2 ≤ length ls → reduced ls n ≡ turn (first_adder ls) n (reduced (drop 3 ls ++ n ∷ []) (n + 2))
+pub reduced_turn : (ls : List ℕ) (n : ℕ) → 2 ≤ length ls → reduced ls n ≡ turn (λ j. j) (first_adder ls) n (reduced (drop 3 ls ++ n ∷ []) (n + 2))
 reduced_turn [] n l = absurd (omega arith)
 reduced_turn (a ∷ []) n l = absurd (omega arith)
 reduced_turn (a ∷ b ∷ []) n l = refl
-reduced_turn (a ∷ b ∷ c ∷ ls) n l =
-    let e = length-append ls (n ∷ []) in
-    ap (turn (full a b c) n) (reduce_fuel (suc (suc (length ls))) (length (ls ++ n ∷ [])) (ls ++ n ∷ []) (n + 2) (omega arith) (omega arith))
+reduced_turn (a ∷ b ∷ c ∷ ls) n l = any.reduced_turn (λ j. j) a b c ls n
 
 pub reduced_few : (ls : List ℕ) (n : ℕ) → length ls ≤ 1 → reduced ls n ≡ record { adders = []; carries = []; left = ls }
 reduced_few [] n l = refl

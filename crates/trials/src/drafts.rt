@@ -27,20 +27,14 @@ fn a_refused_opening_changes_nothing(rt: HostRuntime) -> Result<(), Fail> {
     let mut place = WordPlace::open(&mut buffer);
     assert!(rt; Draft::open(6, &mut place).is_err());
     assert!(rt;
-        opening(4, &mut place) == Some(DraftFault::Place(PlaceFault::NoSpace { held: 399 }))
+        Draft::open(4, &mut place).err()
+            == Some(DraftFault::Place(PlaceFault::NoSpace { held: 399 }))
     );
     assert_eq!(rt; place.count(), 0);
-    assert!(rt; place.used_words().is_empty());
+    assert!(rt; place.used().is_empty());
     place.put(&[1])?;
-    assert!(rt; opening(4, &mut place) == Some(DraftFault::NotEmpty));
-    assert!(rt; opening(5, &mut place) == Some(DraftFault::Side));
+    assert!(rt; Draft::open(4, &mut place).err() == Some(DraftFault::NotEmpty));
+    assert!(rt; Draft::open(5, &mut place).err() == Some(DraftFault::Side));
     assert_eq!(rt; place.count(), 1);
     Ok(())
-}
-
-fn opening<P: Place>(side: usize, place: &mut P) -> Option<DraftFault> {
-    match Draft::open(side, place) {
-        Ok(_) => None,
-        Err(fault) => Some(fault),
-    }
 }

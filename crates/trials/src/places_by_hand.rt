@@ -9,13 +9,13 @@ fn words_are_put_and_cut(rt: HostRuntime) -> Result<(), Fail> {
     let mut place = WordPlace::open(&mut buffer);
     place.put(&[-12, 7])?;
     place.put(&[5])?;
-    assert!(rt; place.words() == &[-12, 7, 0, 5, 0, 0, 0, 0][..]);
+    assert!(rt; place.buffer() == &[-12, 7, 0, 5, 0, 0, 0, 0][..]);
     assert_eq!(rt; place.put(&[1, 2, 3]), Err(PlaceFault::NoSpace { held: 2 }));
     place.cut_back(1);
     assert_eq!(rt; place.count(), 1);
-    assert!(rt; place.used_words() == &[-12, 7, 0][..]);
+    assert!(rt; place.used() == &[-12, 7, 0][..]);
     place.put(&[1, 2, 3, 4])?;
-    assert!(rt; place.words() == &[-12, 7, 0, 1, 2, 3, 4, 0][..]);
+    assert!(rt; place.buffer() == &[-12, 7, 0, 1, 2, 3, 4, 0][..]);
     Ok(())
 }
 
@@ -25,10 +25,10 @@ fn text_is_put_and_cut(rt: HostRuntime) -> Result<(), Fail> {
     let mut place = TextPlace::open(&mut buffer);
     place.put(&[-12, 7])?;
     place.put(&[-65_535])?;
-    assert!(rt; place.used_bytes() == b"-12 7 0\n-65535 0\n".as_slice());
+    assert!(rt; place.used() == b"-12 7 0\n-65535 0\n".as_slice());
     assert_eq!(rt; place.put(&[1]), Err(PlaceFault::NoSpace { held: 2 }));
     place.cut_back(1);
-    assert!(rt; place.bytes() == b"-12 7 0\n\0\0\0\0\0\0\0\0\0\0\0\0".as_slice());
+    assert!(rt; place.buffer() == b"-12 7 0\n\0\0\0\0\0\0\0\0\0\0\0\0".as_slice());
     assert_eq!(rt; place.count(), 1);
     Ok(())
 }
@@ -50,7 +50,7 @@ fn faulty_clauses_are_refused(rt: HostRuntime) {
     assert_eq!(rt; place.put(&[1; 16]), Ok(()));
     let fault = PlaceFault::NoSpace { held: 3 };
     assert_eq!(rt;
-        fault.refusal(),
+        Refusal::from(fault),
         Refusal {
             number: 25,
             layer: Layer::Place,

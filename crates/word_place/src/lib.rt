@@ -3,4 +3,4 @@
 
 mod word;
 
-pub use word::WordPlace;
+pub use word::{WordPlace, Words};

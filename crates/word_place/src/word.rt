@@ -1,18 +1,33 @@
-ghost use Rattle.std.specs.Prelude.{◌≡◌, ◌-◌, ◌≤◌, true, length, take, drop, replicate, pos};
-ghost use Rattle.formulas.specs.Clause.{every, valid};
-ghost use Rattle.spelling.specs.Word.{clauses_in_words, spelled_words};
+ghost use Rattle.spelling.proofs.Words.{words_lawful};
+ghost use Rattle.spelling.specs.Word.{words};
 
-mod methods;
+use store::{Spelling, Store};
 
 // Clauses in words: the literals of each clause, and then 0. What is not used is 0.
-#[derive(Drop)]
-pub struct WordPlace<'a> {
-    words: &'a mut [i32],
-    used: usize,
-    count: usize,
-    ghost fits: { used ≤ length words.now },
-    ghost sound: { every valid (clauses_in_words (take used words.now)) ≡ true },
-    ghost written: { spelled_words (clauses_in_words (take used words.now)) ≡ take used words.now },
-    ghost counted: { count ≡ length (clauses_in_words (take used words.now)) },
-    ghost blank: { drop used words.now ≡ replicate (length words.now - used) (pos 0) },
+pub enum Words {}
+
+// A place of words.
+pub type WordPlace<'a> = Store<'a, Words>;
+
+impl Spelling for Words {
+    type Element = i32;
+
+    ghost spelling = { words };
+
+    fn clear(elements: &mut [i32]) {
+        elements.fill(0);
+    }
+
+    fn write(room: &mut [i32], clause: &[i32]) -> Option<usize> {
+        let end = clause.len();
+        let charge = end + 1;
+        if charge > room.len() {
+            return None;
+        }
+        room[end] = 0;
+        room[..end].copy_from_slice(clause);
+        Some(charge)
+    }
+
+    ghost lawful = { words_lawful };
 }

@@ -24,8 +24,8 @@ impl Board {
             return None;
         }
         let mut cells = [0; 16];
-        for index in 0..side {
-            cells[index] = self.line_cell(number, index);
+        for (index, cell) in cells[..side].iter_mut().enumerate() {
+            *cell = self.line_cell(number, index);
         }
         Some(Line { cells, len: side })
     }

@@ -23,11 +23,10 @@ impl Draft {
         if place.count() > 0 {
             return Err(DraftFault::NotEmpty);
         }
-        let written = write_base(&board, place);
-        if written.is_err() {
+        if let Err(fault) = write_base(&board, place) {
             place.cut_back(0);
+            return Err(DraftFault::from(fault));
         }
-        written?;
         let variables = (board.cells() * board.side()) as u32;
         Ok(Draft { board, variables })
     }

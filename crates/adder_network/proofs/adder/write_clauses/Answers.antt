@@ -1,14 +1,16 @@
-use Rattle.std.proofs.Common.{[], ◌∷◌, sym, refl, ap, ◌∙◌, subst, arith}
+use Rattle.std.proofs.Common.{[], ◌∷◌, get_or, subst, arith}
 use Rattle.std.specs.Result.{result_err}
+use Rattle.std.proofs.lemmas.List.{drop_all, drop_more}
 use Rattle.formulas.specs.Clause.{valid}
 use Rattle.formulas.proofs.Every.{every_get_or}
 use Rattle.places.specs.Written.{Writes}
-use Rattle.places.proofs.Written.{loop_all, loop_exit, loop_more, writes_none, writes_put}
+use Rattle.places.proofs.Loops.{turn_exit, turn_more, turns_all, turns_begin}
+use Rattle.places.proofs.Written.{writes_put}
 use Rattle.adder_network.proofs.Adding.{joined_one}
 use Rattle.adder_network.proofs.adder.write_clauses.Goals as goal
 
 pub loop-clause-init : goal.loop-clause-init
-loop-clause-init g c = writes_none g.P.Place c.args.place.now
+loop-clause-init g c = turns_begin (joined_one c.args.clauses.now)
 
 pub returns-in_err-put : goal.returns-in_err-put
 returns-in_err-put g c =
@@ -17,10 +19,10 @@ returns-in_err-put g c =
     let x = c.clause-item.result in
     let p = c.loop-clause.place in
     let q = c.put.new.self in
-    let ok = every_get_or valid cs i x c.loop-clause-test.true c.requires in
-    let one = writes_put g.P.Place x x refl (ap valid c.clause-item.is ∙ ok) p q c.put.result c.put.ensures.fault c.put.ensures.holds c.put.ensures.room in
-    loop_exit g.P.Place (λ x. x ∷ []) cs cs (joined_one cs) c.args.place.now p i c.loop-clause.invariant x c.loop-clause-test.true (sym c.clause-item.is) q _ c.from_residual.result c.from_residual.ensures.1
-    (subst (λ o. Writes g.P.Place (x ∷ []) p q (result_err o)) c.in_err-put.was one)
+    let one = writes_put g.P.Place x (get_or cs i x) c.clause-item.is (every_get_or valid cs i x c.loop-clause-test.true c.requires) p q
+    c.put.result c.put.ensures.fault c.put.ensures.holds c.put.ensures.room in
+    turn_exit c.loop-clause.invariant (drop_more cs i x c.loop-clause-test.true) c.from_residual.result c.from_residual.ensures.1
+    (subst (λ o. Writes g.P.Place (get_or cs i x ∷ []) p q (result_err o)) c.in_err-put.was one)
 
 pub loop-clause-preserved : goal.loop-clause-preserved
 loop-clause-preserved g c =
@@ -29,12 +31,10 @@ loop-clause-preserved g c =
     let x = c.clause-item.result in
     let p = c.loop-clause.place in
     let q = c.put.new.self in
-    let ok = every_get_or valid cs i x c.loop-clause-test.true c.requires in
-    let one = writes_put g.P.Place x x refl (ap valid c.clause-item.is ∙ ok) p q c.put.result c.put.ensures.fault c.put.ensures.holds c.put.ensures.room in
-    loop_more g.P.Place (λ x. x ∷ []) cs cs (joined_one cs) c.args.place.now p i c.loop-clause.invariant x c.loop-clause-test.true (sym c.clause-item.is) q
-    (subst (λ o. Writes g.P.Place (x ∷ []) p q (result_err o)) c.in_ok-put.was one)
+    let one = writes_put g.P.Place x (get_or cs i x) c.clause-item.is (every_get_or valid cs i x c.loop-clause-test.true c.requires) p q
+    c.put.result c.put.ensures.fault c.put.ensures.holds c.put.ensures.room in
+    turn_more c.loop-clause.invariant (drop_more cs i x c.loop-clause-test.true)
+    (subst (λ o. Writes g.P.Place (get_or cs i x ∷ []) p q (result_err o)) c.in_ok-put.was one)
 
 pub returns : goal.returns
-returns g c =
-    let cs = c.args.clauses.now in
-    loop_all g.P.Place (λ x. x ∷ []) cs cs (joined_one cs) c.args.place.now c.loop-clause.place c.loop-clause.clause-index c.loop-clause.invariant (omega arith)
+returns g c = turns_all c.loop-clause.invariant (drop_all c.loop-clause.clause-index c.args.clauses.now (omega arith))

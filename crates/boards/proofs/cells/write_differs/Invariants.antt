@@ -1,8 +1,8 @@
-use Rattle.std.proofs.Common.{take, None}
-use Rattle.std.specs.List.{flat_map}
-use Rattle.places.specs.Written.{Writes}
-use Rattle.boards.proofs.Loops.{differs_turn}
+use Rattle.std.proofs.Common.{[], drop}
+use Rattle.boards.specs.Base.{clauses_of, differs, not_same}
+use Rattle.places.proofs.Loops.{ToCome}
 use Rattle.boards.proofs.cells.write_differs.Given as goal
 
 abbrev pub invariant-loop-other : goal.invariant-loop-other
-invariant-loop-other g l = Writes g.P.Place (flat_map (differs_turn l.board l.cell) (take l.other-index l.others)) l.initial.place l.place None
+invariant-loop-other g l =
+    ToCome g.P.Place (clauses_of l.fn.board (differs l.fn.board l.fn.cell l.fn.others)) l.fn.place (λ q. clauses_of l.fn.board (not_same l.fn.board (l.fn.cell, q))) [] (drop l.other-index l.fn.others) l.place

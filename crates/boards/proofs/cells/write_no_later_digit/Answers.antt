@@ -1,41 +1,23 @@
-use Rattle.std.proofs.Common.{◌≡◌, ◌+◌, ◌-◌, take, None, subst, arith}
-use Rattle.places.proofs.Written.{writes_none, loop_more, loop_exit, loop_all}
-use Rattle.std.specs.List.{flat_map, range_with_len}
-use Rattle.places.specs.Written.{Writes}
-use Rattle.std.proofs.lemmas.List.FromFn.{length-range_with_len}
+use Rattle.std.proofs.Common.{◌+◌, arith}
 use Rattle.boards.specs.Board.{side}
-use Rattle.formulas.proofs.Lists.{at_counting}
-use Rattle.boards.proofs.Loops.{later_is, later_turn}
+use Rattle.places.proofs.Loops.{next_up_to, none_up_to, turn_exit, turn_more, turns_all, turns_begin}
+use Rattle.boards.proofs.Loops.{later_is}
 use Rattle.boards.proofs.cells.write_no_later_digit.Goals as goal
 
-pub loop-index-init : goal.loop-index-init
-loop-index-init g c =
-    let b = c.args.board.now in
-    let e : 0 ≡ c.args.digit - c.args.digit = omega arith in
-    subst (λ k. Writes g.P.Place (flat_map (later_turn b c.args.cell c.args.digit) (take k (range_with_len (c.args.digit + 1) (side b - c.args.digit)))) c.args.place.now c.args.place.now None) e
-    (writes_none g.P.Place c.args.place.now)
+pub loop-digit-init : goal.loop-digit-init
+loop-digit-init g c = turns_begin (later_is c.args.board.now c.args.mark.cell c.args.mark.digit)
 
 pub returns-in_err-write_not_both : goal.returns-in_err-write_not_both
 returns-in_err-write_not_both g c =
-    let b = c.args.board.now in
-    let i = c.loop-index.index - c.args.digit in
-    let n = length-range_with_len (c.args.digit + 1) (side b - c.args.digit) in
-    loop_exit g.P.Place (later_turn b c.args.cell c.args.digit) (range_with_len (c.args.digit + 1) (side b - c.args.digit)) _ (later_is b c.args.cell c.args.digit) c.args.place.now c.loop-index.place i c.loop-index.invariant
-    (c.loop-index.index + 1) (omega arith) (at_counting (c.args.digit + 1) (side b - c.args.digit) i (c.loop-index.index + 1) (omega arith) (omega arith)) c.write_not_both.new.place _ c.from_residual.result c.from_residual.ensures.1 c.in_err-write_not_both.ensures
+    turn_exit c.loop-digit.invariant (next_up_to (side c.args.board.now) c.loop-digit.digit (omega arith)) c.from_residual.result c.from_residual.ensures.1 c.in_err-write_not_both.ensures
 
-pub loop-index-preserved : goal.loop-index-preserved
-loop-index-preserved g c =
-    let b = c.args.board.now in
-    let i = c.loop-index.index - c.args.digit in
-    let n = length-range_with_len (c.args.digit + 1) (side b - c.args.digit) in
-    let e : i + 1 ≡ c.loop-index.index + 1 - c.args.digit = omega arith in
-    subst (λ k. Writes g.P.Place (flat_map (later_turn b c.args.cell c.args.digit) (take k (range_with_len (c.args.digit + 1) (side b - c.args.digit)))) c.args.place.now c.write_not_both.new.place None) e
-    (loop_more g.P.Place (later_turn b c.args.cell c.args.digit) (range_with_len (c.args.digit + 1) (side b - c.args.digit)) _ (later_is b c.args.cell c.args.digit) c.args.place.now c.loop-index.place i c.loop-index.invariant
-    (c.loop-index.index + 1) (omega arith) (at_counting (c.args.digit + 1) (side b - c.args.digit) i (c.loop-index.index + 1) (omega arith) (omega arith)) c.write_not_both.new.place c.in_ok-write_not_both.ensures)
+pub loop-digit-preserved : goal.loop-digit-preserved
+loop-digit-preserved g c = turn_more c.loop-digit.invariant (next_up_to (side c.args.board.now) c.loop-digit.digit (omega arith)) c.in_ok-write_not_both.ensures
 
 pub returns : goal.returns
-returns g c =
-    let b = c.args.board.now in
-    let i = c.loop-index.index - c.args.digit in
-    let n = length-range_with_len (c.args.digit + 1) (side b - c.args.digit) in
-    loop_all g.P.Place (later_turn b c.args.cell c.args.digit) (range_with_len (c.args.digit + 1) (side b - c.args.digit)) _ (later_is b c.args.cell c.args.digit) c.args.place.now c.loop-index.place i c.loop-index.invariant (omega arith)
+returns g c = turns_all c.loop-digit.invariant (none_up_to (side c.args.board.now) c.loop-digit.digit (omega arith))
+
+pub returns-in_ok-write_not_both : goal.returns-in_ok-write_not_both
+returns-in_ok-write_not_both g c =
+    turns_all (turn_more c.loop-digit.invariant (next_up_to (side c.args.board.now) c.loop-digit.digit (omega arith)) c.in_ok-write_not_both.ensures)
+    (none_up_to (side c.args.board.now) (c.loop-digit.digit + 1) (omega arith))

@@ -1,9 +1,10 @@
-use Rattle.std.proofs.Common.{◌+◌, ◌-◌, take, None}
-use Rattle.std.specs.List.{flat_map, range_with_len}
-use Rattle.places.specs.Written.{Writes}
+use Rattle.std.proofs.Common.{[], ◌∷◌}
+use Rattle.boards.specs.Atoms.{at}
+use Rattle.boards.specs.Base.{clauses_of, no_later_digit, not_both}
 use Rattle.boards.specs.Board.{side}
-use Rattle.boards.proofs.Loops.{later_turn}
+use Rattle.places.proofs.Loops.{ToCome, up_to}
 use Rattle.boards.proofs.cells.write_no_later_digit.Given as goal
 
-abbrev pub invariant-loop-index : goal.invariant-loop-index
-invariant-loop-index g l = Writes g.P.Place (flat_map (later_turn l.board l.cell l.digit) (take (l.index - l.digit) (range_with_len (l.digit + 1) (side l.board - l.digit)))) l.initial.place l.place None
+abbrev pub invariant-loop-digit : goal.invariant-loop-digit
+invariant-loop-digit g l = ToCome g.P.Place (clauses_of l.fn.board (no_later_digit l.fn.board l.fn.mark.cell l.fn.mark.digit)) l.fn.place
+    (λ d. clauses_of l.fn.board (not_both (at l.fn.mark.cell l.fn.mark.digit) (at l.fn.mark.cell d) ∷ [])) [] (up_to (side l.fn.board) l.digit) l.place

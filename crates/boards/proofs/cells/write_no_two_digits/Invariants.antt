@@ -1,9 +1,8 @@
-use Rattle.std.proofs.Common.{take, None}
-use Rattle.std.specs.List.{flat_map, range_with_len}
-use Rattle.places.specs.Written.{Writes}
+use Rattle.std.proofs.Common.{[]}
+use Rattle.boards.specs.Base.{clauses_of, no_later_digit, no_two_digits}
 use Rattle.boards.specs.Board.{side}
-use Rattle.boards.proofs.Loops.{two_turn}
+use Rattle.places.proofs.Loops.{ToCome, up_to}
 use Rattle.boards.proofs.cells.write_no_two_digits.Given as goal
 
-abbrev pub invariant-loop-index : goal.invariant-loop-index
-invariant-loop-index g l = Writes g.P.Place (flat_map (two_turn l.board l.cell) (take l.index (range_with_len 1 (side l.board)))) l.initial.place l.place None
+abbrev pub invariant-loop-digit : goal.invariant-loop-digit
+invariant-loop-digit g l = ToCome g.P.Place (clauses_of l.fn.board (no_two_digits l.fn.board l.fn.cell)) l.fn.place (λ d. clauses_of l.fn.board (no_later_digit l.fn.board l.fn.cell d)) [] (up_to (side l.fn.board) l.digit) l.place

@@ -1,9 +1,10 @@
-use Rattle.std.proofs.Common.{take, None}
-use Rattle.std.specs.List.{flat_map, range_with_len}
-use Rattle.places.specs.Written.{Writes}
+use Rattle.std.proofs.Common.{[], ◌∷◌}
+use Rattle.boards.specs.Atoms.{at}
+use Rattle.boards.specs.Base.{clauses_of, not_both, not_same}
 use Rattle.boards.specs.Board.{side}
-use Rattle.boards.proofs.Loops.{same_turn}
+use Rattle.places.proofs.Loops.{ToCome, up_to}
 use Rattle.boards.proofs.cells.write_not_same.Given as goal
 
-abbrev pub invariant-loop-index : goal.invariant-loop-index
-invariant-loop-index g l = Writes g.P.Place (flat_map (same_turn l.board l.first l.second) (take l.index (range_with_len 1 (side l.board)))) l.initial.place l.place None
+abbrev pub invariant-loop-digit : goal.invariant-loop-digit
+invariant-loop-digit g l = ToCome g.P.Place (clauses_of l.fn.board (not_same l.fn.board (l.fn.first, l.fn.second))) l.fn.place
+    (λ d. clauses_of l.fn.board (not_both (at l.fn.first d) (at l.fn.second d) ∷ [])) [] (up_to (side l.fn.board) l.digit) l.place

@@ -1,15 +1,16 @@
-use Rattle.std.proofs.Common.{ℕ, not, length, get_or, sym, ap, ◌∙◌}
+use Rattle.std.proofs.Common.{ℕ, not, refl, ap, ◌∙◌, rules, get_or}
+use Rattle.std.specs.Option.{option_map}
+use Rattle.std.proofs.lemmas.Iterator.{YieldsList-from_slice}
+use Rattle.std.proofs.lemmas.Iterator.Search.{position_from_yields_List}
+use borrow.Author.Tests.{tests}
 use Rattle.parts.specs.declared.fault.KindFault.TheVariants.{Character}
-use Rattle.parts.proofs.Walks.{walked_exit, walked_more}
+use Rattle.parts.proofs.Found.{found, refused}
 use Rattle.meanings.specs.Givens.{fitting}
 use Rattle.givens.proofs.characters.check_characters.Goals as goal
 
-pub returns-then-not-fits : goal.returns-then-not-fits
-returns-then-not-fits c =
-    let bad = λ (i : ℕ). not (fitting c.args.board.now (get_or c.args.body.now i 0)) in
-    walked_exit bad Character (length c.args.body.now) c.loop-index.index c.loop-index.invariant c.loop-index-test.true (ap not (sym c.fits.ensures ∙ c.if-not-fits.true))
-
-pub loop-index-preserved : goal.loop-index-preserved
-loop-index-preserved c =
-    let bad = λ (i : ℕ). not (fitting c.args.board.now (get_or c.args.body.now i 0)) in
-    walked_more bad Character (length c.args.body.now) c.loop-index.index c.loop-index.invariant c.loop-index-test.true (ap not (sym c.fits.ensures ∙ c.if-not-fits.false))
+pub returns : goal.returns
+returns c =
+    let bad = λ (x : ℕ). not (fitting c.args.board.now x) in
+    let xs = c.args.body.now in
+    let p = position_from_yields_List bad _ _ c.position.result c.position.ensures.ran (YieldsList-from_slice xs cc) (λ x b q k. search (rules, tests)) in
+    refused Character c.position.result c.map_or.result (search rules) ∙ ap (option_map Character) p ∙ found 0 bad Character (λ i. bad (get_or xs i 0)) xs (λ i l. refl)

@@ -1,22 +1,22 @@
-use Rattle.std.proofs.Common.{◌+◌, ◌*◌, [], ◌∷◌, ◌++◌, map, ap, ◌∙◌, arith}
-use Rattle.std.specs.List.{range_with_len}
+use Rattle.std.proofs.Common.{◌+◌, ◌*◌, [], ◌∷◌, ◌++◌, ap, ◌∙◌, arith}
 use Rattle.boards.specs.Board.{side}
-use Rattle.boards.specs.Atoms.{at, number}
-use Rattle.sum_kinds.specs.Items.{variables_of, weights_of}
-use Rattle.sum_kinds.proofs.Filling.{cell_more, counting_more, longer}
+use Rattle.sum_kinds.proofs.Filling.{cell_named, digits_named, pushing_done, pushing_more, pushing_room}
 use Rattle.sum_kinds.proofs.fill.push_cell.Goals as goal
 
-pub loop-index-preserved : goal.loop-index-preserved
-loop-index-preserved c =
+pub push-requires : goal.push-requires
+push-requires c =
+    pushing_room (λ d. c.args.cell * side c.args.board.now + d) (λ d. d) (side c.args.board.now) c.args.items.now c.loop-digit.digit c.loop-digit.items c.loop-digit.invariant (omega arith) c.requires
+
+pub loop-digit-preserved : goal.loop-digit-preserved
+loop-digit-preserved c =
+    pushing_more (λ d. c.args.cell * side c.args.board.now + d) (λ d. d) (side c.args.board.now) c.args.items.now c.loop-digit.digit c.loop-digit.items c.loop-digit.invariant (omega arith) c.push.new.self
+    (c.push.ensures.0 ∙ ap (λ v. c.loop-digit.items.variables.items ++ v ∷ []) c.variable.ensures.value, c.push.ensures.1)
+
+pub returns-2 : goal.returns-2
+returns-2 c =
     let b = c.args.board.now in
-    let cell = c.args.cell in
-    let i = c.loop-index.index in
-    let inv = c.loop-index.invariant in
-    let before = c.args.items.now in
-    let pushed = c.push.ensures in (
-      pushed.0 ∙ ap (λ v. variables_of c.loop-index.items ++ v ∷ []) c.variable.ensures.value ∙
-          longer (variables_of c.loop-index.items) (variables_of before) (map (number b 0) (map (at cell) (range_with_len 1 i))) (map (number b 0) (map (at cell) (range_with_len 1 (i + 1)))) (cell * side b + (i + 1)) inv.0 (cell_more b cell i),
-      pushed.1.0 ∙
-          longer (weights_of c.loop-index.items) (weights_of before) (range_with_len 1 i) (range_with_len 1 (i + 1)) (i + 1) inv.1 (counting_more i),
-      omega (arith, pushed.1.1, inv.2),
-    )
+    let more =
+    pushing_more (λ d. c.args.cell * side c.args.board.now + d) (λ d. d) (side b) c.args.items.now c.loop-digit.digit c.loop-digit.items c.loop-digit.invariant (omega arith) c.push.new.self
+    (c.push.ensures.0 ∙ ap (λ v. c.loop-digit.items.variables.items ++ v ∷ []) c.variable.ensures.value, c.push.ensures.1) in
+    digits_named (side b) c.args.items.now _ c.push.new.self (cell_named b c.args.cell (side b) c.args.items.now _ c.push.new.self
+    (pushing_done (λ d. c.args.cell * side c.args.board.now + d) (λ d. d) (side b) c.args.items.now (c.loop-digit.digit + 1) c.push.new.self more (omega arith)))

@@ -1,22 +1,20 @@
-use Rattle.std.proofs.Common.{◌+◌, ◌-◌, ◌*◌, [], ◌∷◌, ◌++◌, map, ap, ◌∙◌, arith}
-use Rattle.std.specs.List.{range_with_len}
+use Rattle.std.proofs.Common.{◌+◌, ◌-◌, ◌*◌, [], ◌∷◌, ◌++◌, ap, ◌∙◌, arith}
 use Rattle.boards.specs.Board.{side}
-use Rattle.boards.specs.Atoms.{at, number}
-use Rattle.sum_kinds.specs.Items.{variables_of, weights_of}
-use Rattle.sum_kinds.proofs.Filling.{cell_more, counted_more, longer}
+use Rattle.sum_kinds.proofs.Filling.{cell_named, pushing_done, pushing_more, pushing_room}
 use Rattle.sum_kinds.proofs.fill.push_circle.Goals as goal
 
-pub loop-index-preserved : goal.loop-index-preserved
-loop-index-preserved c =
+pub push-requires : goal.push-requires
+push-requires c =
+    pushing_room (λ d. c.args.cell * side c.args.board.now + d) (λ d. side c.args.board.now - d) (side c.args.board.now - 1) c.args.items.now c.loop-digit.digit c.loop-digit.items c.loop-digit.invariant (omega arith) (omega arith)
+
+pub loop-digit-preserved : goal.loop-digit-preserved
+loop-digit-preserved c =
+    let now = c.loop-digit.items in
+    pushing_more (λ d. c.args.cell * side c.args.board.now + d) (λ d. side c.args.board.now - d) (side c.args.board.now - 1) c.args.items.now c.loop-digit.digit now c.loop-digit.invariant (omega arith) c.push.new.self
+    (c.push.ensures.0 ∙ ap (λ v. now.variables.items ++ v ∷ []) c.variable.ensures.value, c.push.ensures.1 ∙ ap (λ s. now.weights.items ++ (s - c.loop-digit.digit) ∷ []) c.side-side.ensures.value)
+
+pub returns : goal.returns
+returns c =
     let b = c.args.board.now in
-    let cell = c.args.cell in
-    let i = c.loop-index.index in
-    let inv = c.loop-index.invariant in
-    let before = c.args.items.now in
-    let pushed = c.push.ensures in (
-      pushed.0 ∙ ap (λ v. variables_of c.loop-index.items ++ v ∷ []) c.variable.ensures.value ∙
-          longer (variables_of c.loop-index.items) (variables_of before) (map (number b 0) (map (at cell) (range_with_len 1 i))) (map (number b 0) (map (at cell) (range_with_len 1 (i + 1)))) (cell * side b + (i + 1)) inv.0 (cell_more b cell i),
-      pushed.1.0 ∙ ap (λ v. weights_of c.loop-index.items ++ (v - (i + 1)) ∷ []) c.side-side.ensures.value ∙
-          longer (weights_of c.loop-index.items) (weights_of before) (map (λ d. side b - d) (range_with_len 1 i)) (map (λ d. side b - d) (range_with_len 1 (i + 1))) (side b - (i + 1)) inv.1 (counted_more (λ d. side b - d) i),
-      omega (arith, pushed.1.1, inv.2),
-    )
+    cell_named b c.args.cell (side b - 1) c.args.items.now _ c.loop-digit.items
+    (pushing_done (λ d. c.args.cell * side c.args.board.now + d) (λ d. side c.args.board.now - d) (side b - 1) c.args.items.now c.loop-digit.digit c.loop-digit.items c.loop-digit.invariant (omega arith))

@@ -1,9 +1,12 @@
-use Rattle.std.proofs.Common.{take, None}
-use Rattle.std.specs.List.{range_with_len, flat_map}
-use Rattle.places.specs.Written.{Writes}
+use Rattle.std.proofs.Common.{ℕ, []}
+use Rattle.places.proofs.Loops.{ToCome, up_to}
 use Rattle.boards.specs.Board.{side}
+use Rattle.kinds.specs.Answers.{clauses_from}
+use Rattle.meanings.specs.Thermometer.{below}
 use Rattle.thermometer.proofs.Rising.{digit_turn}
 use Rattle.thermometer.proofs.steps.write_below.Given as goal
 
-abbrev pub invariant-loop-index : goal.invariant-loop-index
-invariant-loop-index g l = Writes g.P.Place (flat_map (digit_turn l.board l.first l.lower l.upper) (take l.index (range_with_len 1 (side l.board)))) l.initial.place l.place None
+abbrev pub invariant-loop-digit : goal.invariant-loop-digit
+invariant-loop-digit g l =
+    (f : ℕ) → ToCome g.P.Place (clauses_from l.board f (below l.board l.lower l.upper)) l.initial.place (digit_turn l.board f l.lower l.upper) []
+    (up_to (side l.board) l.digit) l.place

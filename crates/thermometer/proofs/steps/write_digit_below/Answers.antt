@@ -1,48 +1,52 @@
-use Rattle.std.proofs.Common.{◌+◌, subst, arith}
-use Rattle.std.specs.List.{range_with_len}
+use Rattle.std.proofs.Common.{ℕ, ◌+◌, subst, arith}
 use Rattle.std.specs.Result.{result_err}
 use Rattle.std.proofs.lemmas.Int.{ints}
-use Rattle.std.proofs.lemmas.List.FromFn.{length-range_with_len}
-use Rattle.formulas.proofs.Lists.{at_counting}
 use Rattle.places.specs.Written.{Writes}
-use Rattle.places.proofs.Written.{loop_all, loop_exit, loop_more}
+use Rattle.places.proofs.Loops.{next_up_to, none_up_to, turn_exit, turn_more, turns_all, turns_begin}
 use Rattle.thermometer.proofs.Rising.{digit_is, pair_put, pair_turn}
 use Rattle.thermometer.proofs.steps.write_digit_below.Goals as goal
+
+pub loop-other-init : goal.loop-other-init
+loop-other-init g c =
+    λ f. turns_begin (digit_is c.args.board.now f c.args.lower c.args.upper c.args.digit)
 
 pub returns-in_err-put : goal.returns-in_err-put
 returns-in_err-put g c =
     let b = c.args.board.now in
+    let lo = c.args.lower in
+    let up = c.args.upper in
     let d = c.args.digit in
-    let i = c.loop-index.index in
-    let n = length-range_with_len 1 d in
-    let p = c.loop-index.place in
-    let q = c.put.new.self in
-    let one = pair_put g.P.Place b c.args.first c.args.lower c.args.upper d (i + 1) (omega (arith, c.requires.0)) (omega arith) _ _ c.variable-lower.result c.variable-upper.result
-    c.variable-lower.ensures.value c.variable-upper.ensures.value (omega (arith, c.variable-lower.ensures.bound)) (omega (arith, c.variable-upper.ensures.bound))
-    (omega (arith, ints, c.variable-lower.ensures.bound)) (omega (arith, ints, c.variable-upper.ensures.bound)) p q c.put.result c.put.ensures.fault c.put.ensures.holds c.put.ensures.room in
-    loop_exit g.P.Place (pair_turn b c.args.first c.args.lower c.args.upper d) (range_with_len 1 d) _ (digit_is b c.args.first c.args.lower c.args.upper d) c.args.place.now p i c.loop-index.invariant
-    (i + 1) (omega (arith, c.loop-index-test.true)) (at_counting 1 d i (i + 1) c.loop-index-test.true (omega arith)) q _ c.from_residual.result c.from_residual.ensures.1
-    (subst (λ o. Writes g.P.Place (pair_turn b c.args.first c.args.lower c.args.upper d (i + 1)) p q (result_err o)) c.in_err-put.was one)
+    let e = c.loop-other.other in
+    let one = λ (f : ℕ). pair_put g.P.Place b f lo up d e (omega arith) (omega arith) _ _ c.variable-lower.result c.variable-upper.result
+    c.variable-lower.ensures.value c.variable-upper.ensures.value (omega arith) (omega arith)
+    (omega (arith, ints)) (omega (arith, ints)) c.loop-other.place c.put.new.self c.put.result c.put.ensures.fault c.put.ensures.holds c.put.ensures.room in
+    λ f. turn_exit (c.loop-other.invariant f) (next_up_to d e (omega arith)) c.from_residual.result c.from_residual.ensures.1
+    (subst (λ o. Writes g.P.Place (pair_turn b f lo up d e) c.loop-other.place c.put.new.self (result_err o)) c.in_err-put.was (one f))
 
-pub loop-index-preserved : goal.loop-index-preserved
-loop-index-preserved g c =
+pub loop-other-preserved : goal.loop-other-preserved
+loop-other-preserved g c =
     let b = c.args.board.now in
+    let lo = c.args.lower in
+    let up = c.args.upper in
     let d = c.args.digit in
-    let i = c.loop-index.index in
-    let n = length-range_with_len 1 d in
-    let p = c.loop-index.place in
-    let q = c.put.new.self in
-    let one = pair_put g.P.Place b c.args.first c.args.lower c.args.upper d (i + 1) (omega (arith, c.requires.0)) (omega arith) _ _ c.variable-lower.result c.variable-upper.result
-    c.variable-lower.ensures.value c.variable-upper.ensures.value (omega (arith, c.variable-lower.ensures.bound)) (omega (arith, c.variable-upper.ensures.bound))
-    (omega (arith, ints, c.variable-lower.ensures.bound)) (omega (arith, ints, c.variable-upper.ensures.bound)) p q c.put.result c.put.ensures.fault c.put.ensures.holds c.put.ensures.room in
-    loop_more g.P.Place (pair_turn b c.args.first c.args.lower c.args.upper d) (range_with_len 1 d) _ (digit_is b c.args.first c.args.lower c.args.upper d) c.args.place.now p i c.loop-index.invariant
-    (i + 1) (omega (arith, c.loop-index-test.true)) (at_counting 1 d i (i + 1) c.loop-index-test.true (omega arith)) q
-    (subst (λ o. Writes g.P.Place (pair_turn b c.args.first c.args.lower c.args.upper d (i + 1)) p q (result_err o)) c.in_ok-put.was one)
+    let e = c.loop-other.other in
+    let one = λ (f : ℕ). pair_put g.P.Place b f lo up d e (omega arith) (omega arith) _ _ c.variable-lower.result c.variable-upper.result
+    c.variable-lower.ensures.value c.variable-upper.ensures.value (omega arith) (omega arith)
+    (omega (arith, ints)) (omega (arith, ints)) c.loop-other.place c.put.new.self c.put.result c.put.ensures.fault c.put.ensures.holds c.put.ensures.room in
+    λ f. turn_more (c.loop-other.invariant f) (next_up_to d e (omega arith))
+    (subst (λ o. Writes g.P.Place (pair_turn b f lo up d e) c.loop-other.place c.put.new.self (result_err o)) c.in_ok-put.was (one f))
 
-pub returns : goal.returns
-returns g c =
+pub returns-in_ok-put : goal.returns-in_ok-put
+returns-in_ok-put g c =
     let b = c.args.board.now in
+    let lo = c.args.lower in
+    let up = c.args.upper in
     let d = c.args.digit in
-    let i = c.loop-index.index in
-    let n = length-range_with_len 1 d in
-    loop_all g.P.Place (pair_turn b c.args.first c.args.lower c.args.upper d) (range_with_len 1 d) _ (digit_is b c.args.first c.args.lower c.args.upper d) c.args.place.now c.loop-index.place i c.loop-index.invariant (omega (arith, c.loop-index-test.false))
+    let e = c.loop-other.other in
+    let one = λ (f : ℕ). pair_put g.P.Place b f lo up d e (omega arith) (omega arith) _ _ c.variable-lower.result c.variable-upper.result
+    c.variable-lower.ensures.value c.variable-upper.ensures.value (omega arith) (omega arith)
+    (omega (arith, ints)) (omega (arith, ints)) c.loop-other.place c.put.new.self c.put.result c.put.ensures.fault c.put.ensures.holds c.put.ensures.room in
+    λ f. turns_all
+    (turn_more (c.loop-other.invariant f) (next_up_to d e (omega arith))
+    (subst (λ o. Writes g.P.Place (pair_turn b f lo up d e) c.loop-other.place c.put.new.self (result_err o)) c.in_ok-put.was (one f)))
+    (none_up_to d (e + 1) (omega arith))

@@ -1,8 +1,9 @@
-use Rattle.std.proofs.Common.{take, None}
-use Rattle.std.specs.List.{range_with_len, flat_map}
-use Rattle.places.specs.Written.{Writes}
-use Rattle.thermometer.proofs.Rising.{pair_turn}
+use Rattle.std.proofs.Common.{ℕ, []}
+use Rattle.places.proofs.Loops.{ToCome, up_to}
+use Rattle.thermometer.proofs.Rising.{digit_turn, pair_turn}
 use Rattle.thermometer.proofs.steps.write_digit_below.Given as goal
 
-abbrev pub invariant-loop-index : goal.invariant-loop-index
-invariant-loop-index g l = Writes g.P.Place (flat_map (pair_turn l.board l.first l.lower l.upper l.digit) (take l.index (range_with_len 1 l.digit))) l.initial.place l.place None
+abbrev pub invariant-loop-other : goal.invariant-loop-other
+invariant-loop-other g l =
+    (f : ℕ) → ToCome g.P.Place (digit_turn l.board f l.lower l.upper l.digit) l.initial.place (pair_turn l.board f l.lower l.upper l.digit) []
+    (up_to l.digit l.other) l.place

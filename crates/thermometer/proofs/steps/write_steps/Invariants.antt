@@ -1,9 +1,12 @@
-use Rattle.std.proofs.Common.{◌≤◌}
-use Rattle.places.proofs.Written.{Left}
+use Rattle.std.proofs.Common.{◌≡◌, ℕ, []}
+use Rattle.places.proofs.Loops.{ToCome}
 use Rattle.kinds.specs.Answers.{clauses_from}
-use Rattle.meanings.specs.Thermometer.{rising}
-use Rattle.thermometer.proofs.Rising.{steps_from}
+use Rattle.meanings.specs.Thermometer.{below, rising}
+use Rattle.thermometer.proofs.Rising.{steps}
 use Rattle.thermometer.proofs.steps.write_steps.Given as goal
 
-abbrev pub invariant-loop-index : goal.invariant-loop-index
-invariant-loop-index g l = (1 ≤ l.index) × Left g.P.Place (clauses_from l.board l.first (rising l.board l.cells)) l.initial.place (steps_from l.board l.first l.cells l.index) l.place
+abbrev pub invariant-loop-pair : goal.invariant-loop-pair
+invariant-loop-pair g l =
+    (l.pair-iterator.size ≡ 2) ×
+    ((f : ℕ) → ToCome g.P.Place (clauses_from l.board f (rising l.board l.cells)) l.initial.place (λ s. clauses_from l.board f (below l.board s.0 s.1)) []
+    (steps l.pair-iterator.rest.now) l.place)

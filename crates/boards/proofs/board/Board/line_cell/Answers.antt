@@ -1,16 +1,9 @@
 use Rattle.boards.proofs.Lines.{row_cell, column_cell, box_cell_at}
 use Rattle.boards.proofs.board.Board.line_cell.Goals as goal
 
-pub overflow_cast-result : goal.overflow_cast-result
-overflow_cast-result c = record { fits = (row_cell c.args.self.now c.side-side.result c.args.number c.args.index c.side-side.ensures.value c.requires.within c.if-number-side.true).0 }
-
 pub returns-then-number-side : goal.returns-then-number-side
 returns-then-number-side c =
     (row_cell c.args.self.now c.side-side.result c.args.number c.args.index c.side-side.ensures.value c.requires.within c.if-number-side.true).1
-
-pub overflow_cast-result-then-number-side-2 : goal.overflow_cast-result-then-number-side-2
-overflow_cast-result-then-number-side-2 c =
-    record { fits = (column_cell c.args.self.now c.side-side.result c.args.number c.args.index c.side-side.ensures.value c.requires.within c.if-number-side.false c.if-number-side-2.true).0 }
 
 pub returns-then-number-side-2 : goal.returns-then-number-side-2
 returns-then-number-side-2 c =

@@ -1,34 +1,16 @@
-use Rattle.std.proofs.Common.{◌<◌, length, sym, arith}
-use Rattle.std.proofs.ByRecursion.{All-weaker}
-use Rattle.boards.specs.Board.{cells, side}
-use Rattle.parts.specs.Tests.{cell_fault, length_fault}
-use Rattle.totallers.proofs.Faultless.{both_none}
-use Rattle.meanings.proofs.Faults.{cells_on, length_between}
-use Rattle.kinds.proofs.Judging.{grid_good}
+use Rattle.std.proofs.Common.{◌<◌, length, sym}
+use Rattle.std.proofs.lemmas.List.Elements.{All-from_recursion}
+use Rattle.kinds.proofs.Judging.{cells_in}
+use Rattle.sum_kinds.proofs.Parts.{cage_cells}
 use Rattle.sum_kinds.proofs.cage.CageKind.judge.Goals as goal
 
 pub digits_differ-requires : goal.digits_differ-requires
 digits_differ-requires c =
-    let b = c.args.board.now in
-    let body = c.args.body.now in
-    let g = c.args.grid.now in
-    let G = grid_good b g (sym c.in_ok-check_grid.ensures) in
-    let parts = both_none (length_fault 1 (side b) body) _ (sym c.in_ok-test.ensures) in
-    let on = cells_on b body (both_none (cell_fault b body) _ parts.1).0 in
-    let few = length_between 1 (side b) body parts.0 in
-    let n = G.size in
-    let in_grid = All-weaker (λ k. k < cells b) (λ k. k < length g) (λ k l. omega arith) body on in
-    in_grid
+    cells_in c.args.board.now c.args.grid.now c.args.part.now.body.now (sym c.in_ok-check_grid.ensures)
+    (cage_cells c.args.board.now c.args.part.now.total c.args.part.now.body.now (sym c.in_ok-test.ensures))
 
-pub sum_digits-requires : goal.sum_digits-requires
-sum_digits-requires c =
-    let b = c.args.board.now in
-    let body = c.args.body.now in
-    let g = c.args.grid.now in
-    let G = grid_good b g (sym c.in_ok-check_grid.ensures) in
-    let parts = both_none (length_fault 1 (side b) body) _ (sym c.in_ok-test.ensures) in
-    let on = cells_on b body (both_none (cell_fault b body) _ parts.1).0 in
-    let few = length_between 1 (side b) body parts.0 in
-    let n = G.size in
-    let in_grid = All-weaker (λ k. k < cells b) (λ k. k < length g) (λ k l. omega arith) body on in
-    record { few = omega (arith, few, b.small); cells = in_grid }
+pub sum_digits-requires-clause-cells : goal.sum_digits-requires-clause-cells
+sum_digits-requires-clause-cells c =
+    let body = c.args.part.now.body.now in
+    All-from_recursion (λ k. k < length c.args.grid.now) body (cells_in c.args.board.now c.args.grid.now body (sym c.in_ok-check_grid.ensures)
+    (cage_cells c.args.board.now c.args.part.now.total body (sym c.in_ok-test.ensures)))

@@ -1,43 +1,21 @@
-use Rattle.std.proofs.Common.{◌+◌, ◌++◌, length, Some, None, codes, decimal, sym, refl, ap, ◌∙◌, arith}
-use Rattle.std.proofs.lemmas.List.{length-append}
-use Rattle.std.proofs.lemmas.Bool.{cond-true, cond-false, le-leb, lt-leb}
-use Rattle.spelling.specs.Spelling.{overwritten}
-use Rattle.spelling.specs.Text.{heading}
-use Rattle.spelling.proofs.Writing.{length_heading, over_first, over_more, over_start}
+use Rattle.std.proofs.Common.{◌++◌, length, drop, codes, ap₂, ◌∙◌}
+use Rattle.spelling.proofs.Writing.{over_more}
 use Rattle.text_place.proofs.text.heading.write_heading.Goals as goal
 
-pub returns-then-len-bytes : goal.returns-then-len-bytes
-returns-then-len-bytes c =
-    let h = heading c.args.variables c.args.clauses in
-    let n = length_heading c.args.variables c.args.clauses in
-    let e = ap (λ d. length (decimal d)) c.from-variables.ensures in
-    record {
-      value = sym (cond-false _ (Some (length h)) None (lt-leb (length h) (length c.args.bytes.now) (omega arith)));
-      after = refl;
-    }
-
-pub returns : goal.returns
-returns c =
-    let v = c.args.variables in
-    let k = c.args.clauses in
+pub returns-clause-after : goal.returns-clause-after
+returns-clause-after c =
     let xs = c.args.bytes.now in
-    let n = length_heading v k in
-    let e = ap (λ d. length (decimal d)) c.from-variables.ensures in
+    let v = c.as_bytes-variables.result.now in
+    let k = c.as_bytes-clauses.result.now in
     let a = codes "p cnf " in
-    let s1 = length-append a (decimal v) in
-    let s2 = length-append (a ++ decimal v) (codes " ") in
-    let s3 = length-append (a ++ decimal v ++ codes " ") (decimal k) in
-    let o1 = over_first xs a c.write_bytes-end.result c.write_bytes-end.new.bytes c.write_bytes-end.ensures.end c.write_bytes-end.ensures.after in
-    let o2 = over_more xs a (decimal v) c.write_bytes-end.result c.write_number-end.result c.write_bytes-end.new.bytes c.write_number-end.new.bytes
-    o1 (omega (arith, e)) (c.write_number-end.ensures.end ∙ ap (λ d. c.write_bytes-end.result + length (decimal d)) c.from-variables.ensures)
-    (c.write_number-end.ensures.after ∙ ap (λ d. overwritten c.write_bytes-end.new.bytes c.write_bytes-end.result (decimal d)) c.from-variables.ensures) in
-    let o3 = over_more xs (a ++ decimal v) (codes " ") c.write_number-end.result c.write_bytes-end-2.result c.write_number-end.new.bytes c.write_bytes-end-2.new.bytes
-    o2 (omega arith) c.write_bytes-end-2.ensures.end c.write_bytes-end-2.ensures.after in
-    let o4 = over_more xs (a ++ decimal v ++ codes " ") (decimal k) c.write_bytes-end-2.result c.write_number-end-2.result c.write_bytes-end-2.new.bytes c.write_number-end-2.new.bytes
-    o3 (omega arith) c.write_number-end-2.ensures.end c.write_number-end-2.ensures.after in
-    let o5 = over_more xs (a ++ decimal v ++ codes " " ++ decimal k) (codes "\n") c.write_number-end-2.result c.write_bytes-end-3.result c.write_number-end-2.new.bytes c.write_bytes-end-3.new.bytes
-    o4 (omega arith) c.write_bytes-end-3.ensures.end c.write_bytes-end-3.ensures.after in
-    record {
-      value = ap Some o5.0 ∙ sym (cond-true _ (Some (length (heading v k))) None (le-leb (length (heading v k)) (length xs) (omega arith)));
-      after = o5.1 ∙ over_start xs (heading v k);
-    }
+    let one = c.write_bytes-end in
+    let two = c.write_bytes-end-2 in
+    let three = c.write_bytes-end-3 in
+    let four = c.write_bytes-end-4 in
+    let five = c.write_bytes-end-5 in
+    let o = over_more xs a v one.result two.result one.new.bytes two.new.bytes (one.ensures.end, one.ensures.after) two.ensures.end two.ensures.after in
+    let o = over_more xs (a ++ v) (codes " ") two.result three.result two.new.bytes three.new.bytes o three.ensures.end three.ensures.after in
+    let o = over_more xs (a ++ v ++ codes " ") k three.result four.result three.new.bytes four.new.bytes o four.ensures.end four.ensures.after in
+    let o = over_more xs (a ++ v ++ codes " " ++ k) (codes "\n") four.result five.result four.new.bytes five.new.bytes o five.ensures.end five.ensures.after in
+    o.1 ∙ ap₂ (λ v k. let h = a ++ v ++ codes " " ++ k ++ codes "\n" in h ++ drop (length h) xs)
+    (c.as_bytes-variables.ensures.value ∙ c.format.ensures.text) (c.as_bytes-clauses.ensures.value ∙ c.format-2.ensures.text)

@@ -1,0 +1,11 @@
+use Rattle.std.proofs.Common.{◌≡◌, ◌≤◌, ◌++◌, get_or, drop, length}
+use Rattle.arrayvec.specs.ArrayVec.{array_vec_len}
+use Rattle.totals.specs.Adders.{with_bit}
+use Rattle.adder_network.specs.Variables.{numbers}
+use Rattle.adder_network.proofs.network.Network.fill.Given as goal
+
+abbrev pub invariant-loop-variable : goal.invariant-loop-variable
+invariant-loop-variable l =
+    (numbers l.line.items ++ with_bit (λ i. get_or l.self.sum.variables.now i 0) l.bit.index (length l.yielded) (drop (length l.yielded) l.self.sum.weights.now) ≡
+    with_bit (λ i. get_or l.self.sum.variables.now i 0) l.bit.index 0 l.self.sum.weights.now) ×
+    (array_vec_len l.line ≤ length l.yielded)
