@@ -10,13 +10,15 @@ pub(crate) const LINES: usize = 11;
 
 // How many weights have the bit.
 #[tactic(auto, using(crate::proofs::Filling::with_bit_count))]
-fn count_with_bit(weights: &[u8], bit: Bit) -> usize
+fn count_with_bit(weights: &[u8], bit: Bit) -> u32
+    requires { length weights.now ≤ 96 }
     ensures { result ≡ length (with_bit (λ i. i) bit.index 0 weights.now) }
 {
+    // A filter would branch at each weight; a sum of ones and zeros does not.
     weights
         .iter()
-        .filter(|weight| bit.is_in(**weight as u32))
-        .count()
+        .map(|weight| u32::from(bit.is_in(*weight as u32)))
+        .sum()
 }
 
 // How many adders all lines have: one for every two variables of a line.
@@ -30,5 +32,5 @@ pub(crate) fn count_adders(weights: &[u8]) -> u32
         carries = (count_with_bit(weights, Bit { index }) + carries) / 2;
         adders += carries;
     }
-    adders as u32
+    adders
 }

@@ -1,3 +1,4 @@
 mod Chains
+mod Pieces
 mod Reading
 mod Encodings

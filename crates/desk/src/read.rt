@@ -4,7 +4,7 @@ ghost use Rattle.desk.specs.DraftText.{after_side, digit, known, lines_of, read,
 ghost use Rattle.desk.specs.Rest.{Advances};
 
 use crate::statement::{Reason, SideLine, Statement, TextFault};
-use crate::words::{is_blank, is_line_feed, without_comment};
+use crate::words::{is_line_feed, next_word, without_comment};
 use boards::Board;
 
 // The side that a text says, and the line that says it; or the first line that is wrong.
@@ -56,17 +56,14 @@ fn advance(
 fn read_line(line: &[u8]) -> Result<Option<Statement>, Reason>
     ensures { result ≡ statement_of line.now }
 {
-    let mut words = without_comment(line)
-        .split(is_blank)
-        .filter(|word| !word.is_empty());
-    let Some(word) = words.next() else {
+    let Some((word, rest)) = next_word(without_comment(line)) else {
         return Ok(None);
     };
     if word != b"side".as_slice() {
         return Err(Reason::UnknownStatement);
     }
-    let number = words.next().ok_or(Reason::SideWords)?;
-    if words.next().is_some() {
+    let (number, rest) = next_word(rest).ok_or(Reason::SideWords)?;
+    if next_word(rest).is_some() {
         return Err(Reason::SideWords);
     }
     let side = known_side(number).ok_or(Reason::SideNumber)?;

@@ -22,21 +22,29 @@ pub enum DraftFault {
     Place(PlaceFault),
 }
 
-impl From<DraftFault> for Refusal {
-    ghost from_gives = { λ e r. r ≡ refusal e };
-
-    fn from(fault: DraftFault) -> Refusal {
-        let number = match fault {
+impl DraftFault {
+    pub fn refusal(self) -> Refusal
+        ensures { result ≡ refusal self }
+    {
+        let number = match self {
             DraftFault::Side => 1,
             DraftFault::NotEmpty => 21,
             DraftFault::HeadingLength => 12,
-            DraftFault::Place(fault) => return Refusal::from(fault),
+            DraftFault::Place(fault) => return fault.refusal(),
         };
         Refusal {
             number,
             layer: Layer::Draft,
             position: 0,
         }
+    }
+}
+
+impl From<DraftFault> for Refusal {
+    ghost from_gives = { λ e r. r ≡ refusal e };
+
+    fn from(fault: DraftFault) -> Refusal {
+        fault.refusal()
     }
 }
 

@@ -32,11 +32,11 @@ pub enum KindFault {
     Place(PlaceFault),
 }
 
-impl From<KindFault> for Refusal {
-    ghost from_gives = { λ e r. r ≡ refusal e };
-
-    fn from(fault: KindFault) -> Refusal {
-        let (number, position) = match fault {
+impl KindFault {
+    pub fn refusal(self) -> Refusal
+        ensures { result ≡ refusal self }
+    {
+        let (number, position) = match self {
             KindFault::BodyLength => (2, 0),
             KindFault::Character { index } => (3, index),
             KindFault::Cell { index } => (4, index),
@@ -46,14 +46,22 @@ impl From<KindFault> for Refusal {
             KindFault::FirstNumber => (8, 0),
             KindFault::GridLength => (12, 0),
             KindFault::GridDigit { index } => (13, index),
-            KindFault::Totaller(fault) => return Refusal::from(fault),
-            KindFault::Place(fault) => return Refusal::from(fault),
+            KindFault::Totaller(fault) => return fault.refusal(),
+            KindFault::Place(fault) => return fault.refusal(),
         };
         Refusal {
             number,
             layer: Layer::Kind,
             position,
         }
+    }
+}
+
+impl From<KindFault> for Refusal {
+    ghost from_gives = { λ e r. r ≡ refusal e };
+
+    fn from(fault: KindFault) -> Refusal {
+        fault.refusal()
     }
 }
 

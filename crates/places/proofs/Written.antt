@@ -1,13 +1,15 @@
 -- Clauses that are put one list after the other.
-use Rattle.std.proofs.Common.{◌≡◌, ℕ, suc, ◌+◌, ◌-◌, ◌<◌, ◌≤◌, true, false, cond, leb, List, [], ◌∷◌, ◌++◌, length, take, ℤ, is_ok, IsErrAnd, Some, None, Ok, Err, sum_by, Option, Result, sym, refl, ap, ◌∙◌, subst, ap₂, inl, inr, append_assoc, append-nil, arith}
+use Rattle.std.proofs.Common.{◌≡◌, ℕ, suc, ◌+◌, ◌-◌, ◌<◌, ◌≤◌, true, false, cond, leb, List, [], ◌∷◌, ◌++◌, length, get_or, take, drop, ℤ, is_ok, IsErrAnd, Some, None, Ok, Err, sum_by, Option, Result, sym, refl, ap, ◌∙◌, subst, ap₂, inl, inr, append_assoc, append-nil, arith}
+use Rattle.std.specs.List.{flat_map}
 use Rattle.std.specs.Option.{option_or}
 use Rattle.std.specs.Result.{result_err}
 use lib.Seq.{take-append-add}
-use Rattle.std.proofs.lemmas.List.{length-append, take_all, take-append-le}
+use Rattle.std.proofs.lemmas.List.{length-append, take_all, take-append-le, take_more}
 use Rattle.std.proofs.lemmas.List.Sums.{sum_by-append, sum_by-cons}
 use Rattle.std.proofs.lemmas.Bool.{and_parts, cases_Bool, cond-true, cond-false, le-leb, leb-true, lt-leb, leb-false}
 use Rattle.std.proofs.lemmas.Bool.Decides.{nat_tests}
 use Rattle.formulas.specs.Clause.{every, right_length, usable, valid}
+use Rattle.formulas.proofs.Lists.{joined_append, joined_split}
 use Rattle.places.specs.declared.fault.PlaceFault.{PlaceFault}
 use Rattle.places.specs.declared.fault.PlaceFault.TheVariants.{NoSpace}
 use Rattle.places.specs.Put.{put_fault}
@@ -183,6 +185,30 @@ module _ {P : Type 0} (𝓟 : Ghosts P) where
       Writes 𝓟 cs p q (result_err e)
   writes_exit cs p q f (Ok u) by w = absurd by
   writes_exit cs p q f (Err y) by w = subst (λ z. Writes 𝓟 cs p q (Some z)) (sym by) w
+
+  -- A loop over xs that writes F x for each x in turn, and so cs: i of them are written.
+  module _ {X : Type 0} (F : X → List (List ℤ)) (xs : List X) (cs : List (List ℤ)) (whole : cs ≡ flat_map F xs)
+      (p q : P) (i : ℕ) (w : Writes 𝓟 (flat_map F (take i xs)) p q None) where
+    pub loop_all : length xs ≤ i → Writes 𝓟 cs p q None
+    loop_all l = subst (λ ds. Writes 𝓟 ds p q None) (ap (flat_map F) (take_all i xs l) ∙ sym whole) w
+
+    -- one more
+    module _ (x : X) (l : i < length xs) (at : get_or xs i x ≡ x) (r : P) where
+      front : flat_map F (take (i + 1) xs) ≡ flat_map F (take i xs) ++ F x
+      front =
+          ap (flat_map F) (take_more xs i x l) ∙ joined_append F (take i xs) (get_or xs i x ∷ []) ∙
+          ap (λ q. flat_map F (take i xs) ++ q) (append-nil (F (get_or xs i x)) ∙ ap F at)
+
+      pub loop_more : Writes 𝓟 (F x) q r None → Writes 𝓟 (flat_map F (take (i + 1) xs)) p r None
+      loop_more v = subst (λ ds. Writes 𝓟 ds p r None) (sym front) (writes_then (flat_map F (take i xs)) (F x) p q r None w v)
+
+      -- a fault
+      pub loop_exit : (f : PlaceFault) (e : Result Unit PlaceFault) → IsErrAnd e (λ y. y ≡ f) → Writes 𝓟 (F x) q r (Some f) → Writes 𝓟 cs p r (result_err e)
+      loop_exit f e by v =
+          let parts : (flat_map F (take i xs) ++ F x) ++ flat_map F (drop (i + 1) xs) ≡ cs =
+          sym (whole ∙ joined_split F xs (i + 1) ∙ ap (λ q. q ++ flat_map F (drop (i + 1) xs)) front) in
+          writes_exit cs p r f e by (subst (λ ds. Writes 𝓟 ds p r (Some f)) parts
+          (writes_stops (flat_map F (take i xs) ++ F x) (flat_map F (drop (i + 1) xs)) p r f (writes_then (flat_map F (take i xs)) (F x) p q r (Some f) w v)))
 
 -- Where the first clause that does not fit stands: in cs if writing cs meets a fault, and otherwise behind them.
 module _ {P : Type 0} (𝓟 : Ghosts P) (cs ds : List (List ℤ)) (p q : P) where

@@ -43,11 +43,11 @@ pub enum PlaceFault {
     NoSpace { held: usize },
 }
 
-impl From<PlaceFault> for Refusal {
-    ghost from_gives = { λ e r. r ≡ refusal e };
-
-    fn from(fault: PlaceFault) -> Refusal {
-        let (number, position) = match fault {
+impl PlaceFault {
+    pub fn refusal(self) -> Refusal
+        ensures { result ≡ refusal self }
+    {
+        let (number, position) = match self {
             PlaceFault::ClauseLength => (9, 0),
             PlaceFault::Literal { index } => (9, index),
             PlaceFault::NoSpace { held } => (25, held),
@@ -57,5 +57,13 @@ impl From<PlaceFault> for Refusal {
             layer: Layer::Place,
             position,
         }
+    }
+}
+
+impl From<PlaceFault> for Refusal {
+    ghost from_gives = { λ e r. r ≡ refusal e };
+
+    fn from(fault: PlaceFault) -> Refusal {
+        fault.refusal()
     }
 }

@@ -7,6 +7,7 @@ use store::{Spelling, Store};
 mod bytes;
 mod heading;
 mod line;
+mod numeral;
 
 pub use heading::write_heading;
 
@@ -30,7 +31,7 @@ impl Spelling for Lines {
         if charge > room.len() {
             return None;
         }
-        write_line(room, clause);
+        write_line(&mut room[..charge], clause);
         Some(charge)
     }
 

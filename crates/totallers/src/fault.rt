@@ -20,22 +20,30 @@ pub enum TotallerFault {
     Place(PlaceFault),
 }
 
-impl From<TotallerFault> for Refusal {
-    ghost from_gives = { λ e r. r ≡ refusal e };
-
-    fn from(fault: TotallerFault) -> Refusal {
-        let (number, position) = match fault {
+impl TotallerFault {
+    pub fn refusal(self) -> Refusal
+        ensures { result ≡ refusal self }
+    {
+        let (number, position) = match self {
             TotallerFault::Items => (8, 0),
             TotallerFault::Item { index } => (8, index),
             TotallerFault::NotTaken { items } => (23, items),
             TotallerFault::FreshNumber => (24, 0),
-            TotallerFault::Place(fault) => return Refusal::from(fault),
+            TotallerFault::Place(fault) => return fault.refusal(),
         };
         Refusal {
             number,
             layer: Layer::Totaller,
             position,
         }
+    }
+}
+
+impl From<TotallerFault> for Refusal {
+    ghost from_gives = { λ e r. r ≡ refusal e };
+
+    fn from(fault: TotallerFault) -> Refusal {
+        fault.refusal()
     }
 }
 

@@ -7,3 +7,5 @@ mod drafts;
 mod places_by_hand;
 #[cfg(test)]
 mod sums;
+#[cfg(test)]
+mod texts;

@@ -1,8 +1,7 @@
-use Rattle.std.proofs.Common.{◌+◌, length, refl, sym, ap, ◌∙◌, rules, tests}
-use Rattle.std.proofs.lemmas.Iterator.Consumers.{YieldsList-from_enumerate, count_from_yields_List}
+use Rattle.std.proofs.Common.{◌+◌, length, refl, sym, ◌∙◌, rules, tests}
+use Rattle.std.proofs.lemmas.Iterator.Consumers.{YieldsList-from_enumerate}
 use Rattle.std.proofs.lemmas.Iterator.Splits.{YieldsList-from_slice_split}
 use Rattle.spelling.specs.Text.{is_line_feed}
-use Rattle.desk.specs.declared.statement.Reason.TheVariants.{NoSide}
 use Rattle.desk.specs.DraftText.{lines_of}
 use Rattle.desk.proofs.Reading.{ended, handed_on, next_line, no_line}
 use Rattle.desk.proofs.read.read_draft.Goals as goal

@@ -1,4 +1,5 @@
-use Rattle.std.proofs.Common.{◌≡◌, ◌++◌, ◌∷◌, [], drop, get_or, length, sym, subst, ap, ◌∙◌, arith, rules}
+use Rattle.std.proofs.Common.{◌≡◌, ◌++◌, ◌∷◌, [], drop, get_or, length, sym, subst, ap, ◌∙◌, arith}
+use Rattle.std.proofs.lemmas.Grind.{common_steps}
 use Rattle.std.specs.Iterator.Adapters.{zip_first, zip_second}
 use Rattle.std.specs.Slice.Iter.{iter_rest}
 use Rattle.std.proofs.lemmas.List.{length_push, map-append}
@@ -12,7 +13,7 @@ invariant_of-push c =
     let k = length c.loop-variable.yielded in
     let vs = c.args.self.now.sum.variables.now in
     let far = Zip-so_far c.loop-variable.yielded c.into_iter-variable-iterator.result c.loop-variable.variable-iterator c.loop-variable.yielded_by in
-    let begun : iter_rest (zip_first c.into_iter-variable-iterator.result) ≡ vs = search rules in
+    let begun : iter_rest (zip_first c.into_iter-variable-iterator.result) ≡ vs = grind (arith, common_steps) in
     let (e, l, r) = next_item k vs c.in-Some.variable.now _ (sym (far.0 ∙ ap (drop k) begun) ∙ c.in-Some.ensures.steps.0) in
     let u = subst Usable (sym e) (c.args.self.now.fitting.items k l) in
     record { low = u.0; high = u.1 }
@@ -24,8 +25,8 @@ loop-variable-preserved-then-is_in c =
     let vs = c.args.self.now.sum.variables.now in
     let ws = c.args.self.now.sum.weights.now in
     let far = Zip-so_far c.loop-variable.yielded c.into_iter-variable-iterator.result c.loop-variable.variable-iterator c.loop-variable.yielded_by in
-    let begun : iter_rest (zip_first c.into_iter-variable-iterator.result) ≡ vs = search rules in
-    let begun' : iter_rest (zip_second c.into_iter-variable-iterator.result) ≡ ws = search rules in
+    let begun : iter_rest (zip_first c.into_iter-variable-iterator.result) ≡ vs = grind (arith, common_steps) in
+    let begun' : iter_rest (zip_second c.into_iter-variable-iterator.result) ≡ ws = grind (arith, common_steps) in
     let d = sym (far.1 ∙ ap (drop k) begun') ∙ c.in-Some.ensures.steps.1 in
     let (e, l, r) = next_item k vs c.in-Some.variable.now _ (sym (far.0 ∙ ap (drop k) begun) ∙ c.in-Some.ensures.steps.0) in
     let n : numbers c.push.new.self.items ≡ numbers c.loop-variable.line.items ++ c.in-Some.variable.now ∷ [] = ap numbers c.push.ensures.items ∙ map-append (λ v. v.number) c.loop-variable.line.items _ in (

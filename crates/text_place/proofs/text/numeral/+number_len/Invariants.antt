@@ -1,0 +1,4 @@
+use Rattle.text_place.proofs.text.numeral.+number_len.Given as goal
+
+abbrev pub decreases-number_len : goal.decreases-number_len
+decreases-number_len l = l.n
