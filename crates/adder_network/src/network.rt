@@ -71,9 +71,11 @@ impl Network<'_> {
         ensures { numbers line.new.items ≡ line_of self.now.sum.variables.now self.now.sum.weights.now bit.index carries.below carries.count }
     {
         line.clear();
-        for (variable, weight) in self.sum.variables.iter().zip(self.sum.weights) {
+        for (index, weight) in self.sum.weights.iter().enumerate() {
             if bit.is_in(*weight as u32) {
-                line.push(Variable { number: *variable });
+                line.push(Variable {
+                    number: self.sum.variables[index],
+                });
             }
         }
         carries.push_to(line);
